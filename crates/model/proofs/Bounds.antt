@@ -1,0 +1,29 @@
+-- What the bounds say where an event is carried out. Assumes nothing.
+use Prim.Native.Nat.{ℕ, _%_, _<_}
+use native.Mathlib.Omega.{arith}
+use mathlib.Core.Path.{_≡_, refl, sym, _∙_, ap}
+use mathlib.Core.Bool.{Bool, true, false, not, _&&_}
+use lib.Dec.{ltb}
+use borrow.Author.Tests.{ltb-true, not-false}
+use Rattle.rules.specs.Events.{eventInBounds, inBounds}
+use Rattle.rules.specs.Controls.{flagsInBounds}
+use Rattle.rules.specs.declared.controls.Record.{Record}
+use Rattle.rules.specs.declared.event.Event.{Event}
+use Rattle.rules.specs.declared.event.Event.the-variants.{Request}
+
+-- a requested vector is a byte
+pub byte-vector : (e : Event) (v : ℕ) → e ≡ Request v → eventInBounds e ≡ true → v % 256 ≡ v
+unfolding eventInBounds
+byte-vector e v q t = small (ltb-true v 256 (sym (ap eventInBounds q) ∙ t))
+  where
+    small : v < 256 → v % 256 ≡ v
+    small h = omega arith
+
+second : (a b : Bool) → (a && b) ≡ true → b ≡ true
+second true b t = t
+second false true t = refl
+second false false t = t
+
+-- what was not refused by refusal 2 has an event within its bounds
+pub event-within : (r : Record) (e : Event) (b : Bool) → b ≡ inBounds r e → not b ≡ false → eventInBounds e ≡ true
+event-within r e b q n = second (flagsInBounds (r .controls)) (eventInBounds e) (sym q ∙ not-false b n)

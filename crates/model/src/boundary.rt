@@ -1,0 +1,67 @@
+// The boundary between two guest instructions.
+ghost use mathlib.Core.Path.{_≡_};
+ghost use Rattle.model.specs.After.{Leaves};
+ghost use Rattle.model.specs.Boundary.{deliveredPage, delivery as deliveryOf, boundaryAt, boundary as boundaryOf};
+use crate::outcome::delivered;
+use crate::outcome::exit;
+use crate::outcome::quiet;
+use crate::procedures::VIRR;
+use crate::procedures::VISR;
+use crate::procedures::VPPR;
+use page::bytes::set_word;
+use page::vectors::highest_vector;
+use page::vectors::put_vector;
+use rules::answer::Outcome;
+use rules::controls::Record;
+use rules::procedures::low_cleared;
+use rules::procedures::open_boundary;
+
+fn move_to_service(page: &mut [u8], vector: u8)
+    ensures { λ _. ⌜ now (page .exit) ≡ deliveredPage (now (page .entry)) vector ⌝ }
+{
+    put_vector(page, VISR, vector, true);
+    set_word(page, VPPR as u32, low_cleared(vector) as u32);
+    put_vector(page, VIRR, vector, false);
+}
+
+fn delivery(page: &mut [u8], record: Record) -> Outcome
+    ensures { λ r. ⌜ Leaves (deliveryOf (now (page .entry)) «record») r (now (page .exit)) ⌝ }
+{
+    let vector = record.rvi;
+    move_to_service(page, vector);
+    let mut next = record;
+    next.svi = vector;
+    next.rvi = highest_vector(page, VIRR as u32);
+    next.recognised = false;
+    delivered(next, vector)
+}
+
+fn boundary_at(page: &mut [u8], record: Record, is_open: bool) -> Outcome
+    ensures { λ r. ⌜ Leaves (boundaryAt «is_open» (now (page .entry)) «record») r (now (page .exit)) ⌝ }
+{
+    let controls = record.controls;
+    if is_open & controls.interrupt_window_exiting() {
+        return exit(record, 7, 0);
+    }
+    if is_open & record.recognised {
+        return delivery(page, record);
+    }
+    quiet(record)
+}
+
+pub fn boundary(
+    page: &mut [u8],
+    record: Record,
+    interrupts: bool,
+    sti: bool,
+    mov_ss: bool,
+    activity: u8,
+) -> Outcome
+    ensures { λ r. ⌜ Leaves (boundaryOf (now (page .entry)) «record» interrupts sti «mov_ss» activity) r (now (page .exit)) ⌝ }
+{
+    boundary_at(
+        page,
+        record,
+        open_boundary(interrupts, sti, mov_ss, activity),
+    )
+}

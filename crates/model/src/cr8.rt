@@ -1,0 +1,46 @@
+// CR8 both ways.
+ghost use mathlib.Core.Path.{_≡_};
+ghost use Rattle.model.specs.After.{Leaves};
+ghost use Rattle.model.specs.Cr8Msr.{movToCr8, movFromCr8};
+use crate::outcome::exit;
+use crate::outcome::passthrough;
+use crate::outcome::redirected;
+use crate::procedures::VTPR;
+use crate::procedures::tpr_virtualization;
+use page::bytes::byte_at;
+use page::bytes::set_word;
+use rules::answer::Outcome;
+use rules::controls::Record;
+use rules::cr8::from_cr8;
+use rules::cr8::from_cr8_qualification;
+use rules::cr8::to_cr8;
+use rules::cr8::to_cr8_qualification;
+use rules::memory::Access;
+use rules::procedures::class_of;
+
+pub fn mov_to_cr8(page: &mut [u8], record: Record, value: u8, register: u8) -> Outcome
+    ensures { λ r. ⌜ Leaves (movToCr8 (now (page .entry)) «record» value register) r (now (page .exit)) ⌝ }
+{
+    let controls = record.controls;
+    let access = to_cr8(controls);
+    match access {
+        Access::Passthrough => passthrough(record),
+        Access::Exit => exit(record, 28, to_cr8_qualification(register)),
+        Access::Redirected => {
+            set_word(page, VTPR as u32, 16 * (value as u32));
+            tpr_virtualization(page, record)
+        }
+    }
+}
+
+pub fn mov_from_cr8(page: &[u8], record: Record, register: u8) -> Outcome
+    ensures { λ r. ⌜ Leaves (movFromCr8 (now (page .entry)) «record» register) r (now (page .entry)) ⌝ }
+{
+    let controls = record.controls;
+    let access = from_cr8(controls);
+    match access {
+        Access::Passthrough => passthrough(record),
+        Access::Exit => exit(record, 28, from_cr8_qualification(register)),
+        Access::Redirected => redirected(record, class_of(byte_at(page, VTPR)) as u64),
+    }
+}

@@ -1,0 +1,55 @@
+// Entry and request.
+ghost use mathlib.Core.Path.{_≡_};
+ghost use Rattle.model.specs.After.{Leaves};
+ghost use Rattle.model.specs.Entry.{entered as enteredOf, entry as entryOf, request as requestOf};
+use crate::outcome::exit;
+use crate::outcome::quiet;
+use crate::outcome::refused;
+use crate::procedures::VIRR;
+use crate::procedures::VTPR;
+use crate::procedures::evaluated_quiet;
+use crate::procedures::ppr_virtualization;
+use crate::procedures::requested;
+use page::bytes::byte_at;
+use page::vectors::put_vector;
+use rules::answer::Outcome;
+use rules::controls::Controls;
+use rules::controls::Record;
+use rules::entry::exits_at_entry;
+use rules::entry::failing_check;
+
+fn entered(page: &mut [u8], record: Record) -> Outcome
+    ensures { λ r. ⌜ Leaves (enteredOf (now (page .entry)) «record») r (now (page .exit)) ⌝ }
+{
+    let controls = record.controls;
+    if controls.virtual_delivery() {
+        ppr_virtualization(page, record);
+        return evaluated_quiet(page, record);
+    }
+    let mut next = record;
+    next.recognised = false;
+    quiet(next)
+}
+
+pub fn entry(page: &mut [u8], record: Record, controls: Controls) -> Outcome
+    ensures { λ r. ⌜ Leaves (entryOf (now (page .entry)) «record» controls) r (now (page .exit)) ⌝ }
+{
+    let check = failing_check(controls);
+    if check == 0 {
+        let mut next = record;
+        next.controls = controls;
+        if exits_at_entry(controls, byte_at(page, VTPR)) {
+            return exit(next, 43, 0);
+        }
+        next.guest = true;
+        return entered(page, next);
+    }
+    refused(record, 4, check)
+}
+
+pub fn request(page: &mut [u8], record: Record, vector: u8) -> Outcome
+    ensures { λ r. ⌜ Leaves (requestOf (now (page .entry)) «record» vector) r (now (page .exit)) ⌝ }
+{
+    put_vector(page, VIRR, vector, true);
+    quiet(requested(record, vector))
+}

@@ -1,0 +1,74 @@
+// The base model: one event at a time on a lent page.
+ghost use mathlib.Core.Path.{_≡_};
+ghost use Rattle.rules.specs.Controls.{fresh};
+ghost use Rattle.model.specs.After.{Leaves};
+ghost use Rattle.model.specs.Step.{carriedOut, step as stepOf};
+ghost use Rattle.rules.specs.Events.{eventInBounds};
+ghost use mathlib.Core.Bool.{true};
+use rules::answer::Outcome;
+use rules::controls::Record;
+use rules::event::Event;
+
+mod boundary;
+mod cr8;
+mod entry;
+mod memory;
+mod msr;
+mod outcome;
+mod procedures;
+
+// The record before any event: root mode, all zero.
+pub fn fresh_record() -> Record
+    ensures { λ r. ⌜ r ≡ fresh ⌝ }
+{
+    rules::controls::fresh_record()
+}
+
+fn carry_out(page: &mut [u8], record: Record, event: Event) -> Outcome
+    requires { ⌜ eventInBounds event ≡ true ⌝ }
+    ensures { λ r. ⌜ Leaves (carriedOut (now (page .entry)) «record» event) r (now (page .exit)) ⌝ }
+{
+    match event {
+        Event::Entry(controls) => entry::entry(page, record, controls),
+        Event::Request(vector) => entry::request(page, record, (vector % 256) as u8),
+        Event::MemoryRead {
+            offset,
+            size,
+            fetch,
+            again,
+        } => memory::memory_read(page, record, offset, size, fetch, again),
+        Event::MemoryWrite {
+            offset,
+            size,
+            fetch,
+            again,
+            value,
+        } => memory::memory_write(page, record, offset, size, fetch, again, value),
+        Event::ToCr8 { value, register } => cr8::mov_to_cr8(page, record, value, register),
+        Event::FromCr8(register) => cr8::mov_from_cr8(page, record, register),
+        Event::Rdmsr(index) => msr::read_msr(page, record, index),
+        Event::Wrmsr { index, value } => msr::write_msr(page, record, index, value),
+        Event::Boundary {
+            interrupts,
+            sti,
+            mov_ss,
+            activity,
+        } => boundary::boundary(page, record, interrupts, sti, mov_ss, activity),
+    }
+}
+
+// Carries out one event on any page slice and any record, or refuses it by its number.
+pub fn step(page: &mut [u8], record: Record, event: Event) -> Outcome
+    ensures { λ r. ⌜ Leaves (stepOf (now (page .entry)) «record» event) r (now (page .exit)) ⌝ }
+{
+    if page.len() != 4096 {
+        return outcome::refused(record, 1, 0);
+    }
+    if !rules::event::in_bounds(record, event) {
+        return outcome::refused(record, 2, 0);
+    }
+    if !rules::event::is_allowed(record, event) {
+        return outcome::refused(record, 3, 0);
+    }
+    carry_out(page, record, event)
+}

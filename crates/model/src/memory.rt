@@ -1,0 +1,115 @@
+// Memory accesses.
+ghost use mathlib.Core.Path.{_≡_};
+ghost use Rattle.model.specs.After.{Leaves};
+ghost use Rattle.model.specs.Memory.{memoryRead, clearThree, followBy, written as writtenOf, memoryWrite};
+use crate::outcome::exit;
+use crate::outcome::passthrough;
+use crate::outcome::quiet;
+use crate::outcome::redirected;
+use crate::procedures::VTPR;
+use crate::procedures::eoi_virtualization;
+use crate::procedures::self_ipi_virtualization;
+use crate::procedures::tpr_virtualization;
+use page::bytes::byte_at;
+use page::bytes::read_at;
+use page::bytes::set_byte;
+use page::bytes::set_word;
+use page::bytes::store_at;
+use page::bytes::word_at;
+use rules::answer::Outcome;
+use rules::controls::Record;
+use rules::memory::Access;
+use rules::memory::Following;
+use rules::memory::memory_access;
+use rules::memory::read_qualification;
+use rules::memory::write_following;
+use rules::memory::write_qualification;
+
+const VEOI: u32 = 0x0b0;
+
+const VICR_LO: u32 = 0x300;
+
+const VICR_HI: usize = 0x310;
+
+pub fn memory_read(
+    page: &[u8],
+    record: Record,
+    offset: u16,
+    size: u8,
+    fetch: bool,
+    again: bool,
+) -> Outcome
+    ensures { λ r. ⌜ Leaves (memoryRead (now (page .entry)) «record» offset size fetch again) r (now (page .entry)) ⌝ }
+{
+    let controls = record.controls;
+    let access = memory_access(controls, false, offset, size, fetch, again);
+    match access {
+        Access::Passthrough => passthrough(record),
+        Access::Exit => exit(record, 44, read_qualification(offset, fetch)),
+        Access::Redirected => redirected(record, read_at(page, offset, size)),
+    }
+}
+
+fn clear_three(page: &mut [u8], at: u16)
+    ensures { λ _. ⌜ now (page .exit) ≡ clearThree (now (page .entry)) at ⌝ }
+{
+    let first = at as usize;
+    set_byte(page, first, 0);
+    set_byte(page, first + 1, 0);
+    set_byte(page, first + 2, 0);
+}
+
+fn follow(page: &mut [u8], record: Record, offset: u16, following: Following) -> Outcome
+    ensures { λ r. ⌜ Leaves (followBy following (now (page .entry)) «record» offset) r (now (page .exit)) ⌝ }
+{
+    match following {
+        Following::Tpr => {
+            clear_three(page, VTPR as u16 + 1);
+            tpr_virtualization(page, record)
+        }
+        Following::Eoi => {
+            set_word(page, VEOI, 0);
+            eoi_virtualization(page, record)
+        }
+        Following::SelfIpi => {
+            let vector = byte_at(page, VICR_LO as usize);
+            self_ipi_virtualization(page, record, vector)
+        }
+        Following::IcrHigh => {
+            clear_three(page, VICR_HI as u16);
+            quiet(record)
+        }
+        Following::ApicWrite => exit(record, 56, offset as u64),
+    }
+}
+
+fn written(page: &mut [u8], record: Record, offset: u16) -> Outcome
+    ensures { λ r. ⌜ Leaves (writtenOf (now (page .entry)) «record» offset) r (now (page .exit)) ⌝ }
+{
+    let controls = record.controls;
+    let icr = word_at(page, VICR_LO);
+    follow(page, record, offset, write_following(controls, offset, icr))
+}
+
+pub fn memory_write(
+    page: &mut [u8],
+    record: Record,
+    offset: u16,
+    size: u8,
+    fetch: bool,
+    again: bool,
+    value: u64,
+) -> Outcome
+    ensures { λ r. ⌜ Leaves (memoryWrite (now (page .entry)) «record» offset size fetch again value) r (now (page .exit)) ⌝ }
+{
+    let controls = record.controls;
+    let access = memory_access(controls, true, offset, size, fetch, again);
+    match access {
+        Access::Passthrough => passthrough(record),
+        Access::Exit => exit(record, 44, write_qualification(offset)),
+        Access::Redirected => {
+            store_at(page, offset, size, value);
+            written(page, record, offset)
+        }
+    }
+}

@@ -1,0 +1,61 @@
+// RDMSR and WRMSR.
+ghost use mathlib.Core.Path.{_≡_};
+ghost use Rattle.model.specs.After.{Leaves};
+ghost use Rattle.model.specs.Cr8Msr.{readMsr, writeMsrBy, writeMsr};
+use crate::outcome::exit;
+use crate::outcome::fault;
+use crate::outcome::passthrough;
+use crate::outcome::redirected;
+use crate::procedures::eoi_virtualization;
+use crate::procedures::self_ipi_virtualization;
+use crate::procedures::tpr_virtualization;
+use page::bytes::long_at;
+use page::bytes::set_long;
+use rules::answer::Outcome;
+use rules::controls::Record;
+use rules::msr::MsrWrite;
+use rules::msr::msr_offset;
+use rules::msr::rdmsr_redirected;
+use rules::msr::wrmsr_of;
+
+pub fn read_msr(page: &[u8], record: Record, index: u32) -> Outcome
+    ensures { λ r. ⌜ Leaves (readMsr (now (page .entry)) «record» index) r (now (page .entry)) ⌝ }
+{
+    let controls = record.controls;
+    if rdmsr_redirected(controls, index) {
+        return redirected(record, long_at(page, msr_offset(index)));
+    }
+    passthrough(record)
+}
+
+fn follow_msr(page: &mut [u8], record: Record, index: u32, value: u64, write: MsrWrite) -> Outcome
+    ensures { λ r. ⌜ Leaves (writeMsrBy write (now (page .entry)) «record» index value) r (now (page .exit)) ⌝ }
+{
+    match write {
+        MsrWrite::Passthrough => passthrough(record),
+        MsrWrite::Fault => fault(record),
+        MsrWrite::Tpr => {
+            set_long(page, msr_offset(index), value);
+            tpr_virtualization(page, record)
+        }
+        MsrWrite::Eoi => {
+            set_long(page, msr_offset(index), value);
+            eoi_virtualization(page, record)
+        }
+        MsrWrite::SelfIpi => {
+            set_long(page, msr_offset(index), value);
+            self_ipi_virtualization(page, record, (value % 0x100) as u8)
+        }
+        MsrWrite::ApicWrite => {
+            set_long(page, msr_offset(index), value);
+            exit(record, 56, 0x3f0)
+        }
+    }
+}
+
+pub fn write_msr(page: &mut [u8], record: Record, index: u32, value: u64) -> Outcome
+    ensures { λ r. ⌜ Leaves (writeMsr (now (page .entry)) «record» index value) r (now (page .exit)) ⌝ }
+{
+    let controls = record.controls;
+    follow_msr(page, record, index, value, wrmsr_of(controls, index, value))
+}

@@ -1,0 +1,99 @@
+// The five procedures.
+ghost use mathlib.Core.Path.{_≡_};
+ghost use Rattle.model.specs.After.{Leaves};
+ghost use Rattle.model.specs.Procedures.{pprVirtualization, evaluation as evaluationOf, evaluatedQuiet, tprVirtualization, retiredPage, retiredRecord, eoiEnd, eoiVirtualization, requestedPage, requestedRecord, selfIpiVirtualization};
+use crate::outcome::exit;
+use crate::outcome::quiet;
+use page::bytes::byte_at;
+use page::bytes::set_word;
+use page::vectors::highest_vector;
+use page::vectors::put_vector;
+use rules::answer::Outcome;
+use rules::controls::Record;
+use rules::procedures::below_threshold;
+use rules::procedures::evaluates;
+use rules::procedures::larger_of;
+use rules::procedures::ppr_of;
+
+pub const VTPR: usize = 0x080;
+
+pub const VPPR: usize = 0x0a0;
+
+pub const VISR: usize = 0x100;
+
+pub const VIRR: usize = 0x200;
+
+// VPPR from VTPR and SVI.
+pub fn ppr_virtualization(page: &mut [u8], record: Record)
+    ensures { λ _. ⌜ now (page .exit) ≡ pprVirtualization (now (page .entry)) «record» ⌝ }
+{
+    let ppr = ppr_of(byte_at(page, VTPR), record.svi);
+    set_word(page, VPPR as u32, ppr as u32);
+}
+
+// Whether RVI is recognised against VPPR.
+pub fn evaluation(page: &[u8], record: Record) -> Record
+    ensures { λ r. ⌜ r ≡ evaluationOf (now (page .entry)) «record» ⌝ }
+{
+    let controls = record.controls;
+    let mut next = record;
+    next.recognised = evaluates(controls, record.rvi, byte_at(page, VPPR));
+    next
+}
+
+pub fn evaluated_quiet(page: &[u8], record: Record) -> Outcome
+    ensures { λ r. ⌜ Leaves (evaluatedQuiet (now (page .entry)) «record») r (now (page .entry)) ⌝ }
+{
+    quiet(evaluation(page, record))
+}
+
+pub fn tpr_virtualization(page: &mut [u8], record: Record) -> Outcome
+    ensures { λ r. ⌜ Leaves (tprVirtualization (now (page .entry)) «record») r (now (page .exit)) ⌝ }
+{
+    let controls = record.controls;
+    if controls.virtual_delivery() {
+        ppr_virtualization(page, record);
+        return evaluated_quiet(page, record);
+    }
+    if below_threshold(controls, byte_at(page, VTPR)) {
+        return exit(record, 43, 0);
+    }
+    quiet(record)
+}
+
+fn eoi_end(page: &mut [u8], record: Record, old: u8) -> Outcome
+    ensures { λ r. ⌜ Leaves (eoiEnd old (now (page .entry)) «record») r (now (page .exit)) ⌝ }
+{
+    let controls = record.controls;
+    ppr_virtualization(page, record);
+    if controls.eoi_exit(old) {
+        return exit(record, 45, old as u64);
+    }
+    evaluated_quiet(page, record)
+}
+
+pub fn eoi_virtualization(page: &mut [u8], record: Record) -> Outcome
+    ensures { λ r. ⌜ Leaves (eoiVirtualization (now (page .entry)) «record») r (now (page .exit)) ⌝ }
+{
+    let old = record.svi;
+    put_vector(page, VISR, old, false);
+    let mut next = record;
+    next.svi = highest_vector(page, VISR as u32);
+    eoi_end(page, next, old)
+}
+
+// The record after a request of the vector.
+pub fn requested(record: Record, vector: u8) -> Record
+    ensures { λ r. ⌜ r ≡ requestedRecord «record» vector ⌝ }
+{
+    let mut next = record;
+    next.rvi = larger_of(record.rvi, vector);
+    next
+}
+
+pub fn self_ipi_virtualization(page: &mut [u8], record: Record, vector: u8) -> Outcome
+    ensures { λ r. ⌜ Leaves (selfIpiVirtualization (now (page .entry)) «record» vector) r (now (page .exit)) ⌝ }
+{
+    put_vector(page, VIRR, vector, true);
+    evaluated_quiet(page, requested(record, vector))
+}
