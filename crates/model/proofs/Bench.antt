@@ -4,7 +4,7 @@ use Rattle.rules.specs.Controls.{eoiExitWord}
 use Rattle.rules.specs.Events.{valueInBounds, eventInBounds, rootOnly, allowed}
 use Rattle.rules.specs.Entry.{failingCheck}
 use Rattle.rules.specs.Memory.{openOffset, memoryAccess, readQualification, writeFollowing}
-use Rattle.rules.specs.Cr8Msr.{toCr8, fromCr8, wrmsrFollowing, wrmsr}
+use Rattle.rules.specs.Cr8Msr.{cr8Access, wrmsrFollowing, wrmsr}
 use Rattle.rules.specs.Procedures.{ppr, larger}
 use Rattle.page.specs.Page.{halfAt, wordAt, longAt, readAt, setHalf, setWord, setLong, storeAt, isSet, putVector, highestBelow, highest}
 use Rattle.model.specs.Procedures.{pprVirtualization, evaluation, evaluatedQuiet, tprVirtualization, retiredPage, retiredRecord, eoiEnd, eoiVirtualization, requestedPage, requestedRecord, selfIpiVirtualization}
@@ -17,5 +17,5 @@ use Rattle.model.specs.Run.{run}
 use Rattle.model.specs.Bench.{rowHolds, rowsHold, benchRows}
 
 pub every-row-holds : T (rowsHold benchRows)
-unfolding eoiExitWord valueInBounds eventInBounds rootOnly allowed failingCheck openOffset memoryAccess readQualification writeFollowing toCr8 fromCr8 wrmsrFollowing wrmsr ppr larger halfAt wordAt longAt readAt setHalf setWord setLong storeAt isSet putVector highestBelow highest pprVirtualization evaluation evaluatedQuiet tprVirtualization retiredPage retiredRecord eoiEnd eoiVirtualization requestedPage requestedRecord selfIpiVirtualization entered entry request readBy memoryRead clearThree followBy written writeBy memoryWrite toCr8By movToCr8 fromCr8By movFromCr8 readMsr writeMsrBy writeMsr deliveredPage deliveredRecord delivery boundaryAt boundary carriedOut step run rowHolds
+unfolding eoiExitWord valueInBounds eventInBounds rootOnly allowed failingCheck openOffset memoryAccess readQualification writeFollowing cr8Access wrmsrFollowing wrmsr ppr larger halfAt wordAt longAt readAt setHalf setWord setLong storeAt isSet putVector highestBelow highest pprVirtualization evaluation evaluatedQuiet tprVirtualization retiredPage retiredRecord eoiEnd eoiVirtualization requestedPage requestedRecord selfIpiVirtualization entered entry request readBy memoryRead clearThree followBy written writeBy memoryWrite toCr8By movToCr8 fromCr8By movFromCr8 readMsr writeMsrBy writeMsr deliveredPage deliveredRecord delivery boundaryAt boundary carriedOut step run rowHolds
 every-row-holds = tt

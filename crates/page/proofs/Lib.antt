@@ -1,3 +1,5 @@
 pub mod Bits
 pub mod Part
+pub mod Registers
 pub mod Highest
+pub mod Top

@@ -1,8 +1,9 @@
 -- Document 01, "Registers on the page".
-use Prim.Native.Nat.{ℕ, zero, suc, _+_, _-_, _*_, _/_, _%_, _^_}
+use Prim.Native.Nat.{ℕ, zero, suc, _+_, _-_, _*_, _/_, _%_, _^_, _<_}
+use mathlib.Core.Path.{_≡_}
 use mathlib.Core.Bool.{Bool, true, false}
 use mathlib.Core.List.{List}
-use lib.ListN.{getD, set}
+use lib.ListN.{length, getD, set}
 use lib.Dec.{eqb}
 use Rattle.rules.specs.Logic.{if_then_else_, bit}
 
@@ -103,3 +104,8 @@ highestBelow p base (suc v) = if isSet p base v then v else highestBelow p base 
 
 unfoldable pub highest : List ℕ → ℕ → ℕ
 highest p base = highestBelow p base 256
+
+-- a page: 4,096 bytes
+pub record IsPage (p : List ℕ) : Type 0 where
+  pub size : length p ≡ 4096
+  pub bytes : (i : ℕ) → byteAt p i < 256

@@ -10,13 +10,16 @@ use Rattle.rules.specs.declared.memory.Access.the-variants.{Passthrough,
 use Rattle.rules.specs.declared.msr.MsrWrite.{MsrWrite}
 use Rattle.rules.specs.declared.msr.MsrWrite.the-variants.{Passthrough as MsrPassthrough, Fault, Tpr, Eoi, SelfIpi, ApicWrite}
 
--- To CR8: exit 28 if control 7; else passthrough if no shadow; else VTPR.
-unfoldable pub toCr8 : Controls → Access
-toCr8 c = if cr8LoadExiting c then Exit else if not (useTprShadow c) then Passthrough else Redirected
+-- exit 28 if its control is on; else passthrough if no shadow; else VTPR
+unfoldable pub cr8Access : Bool → Controls → Access
+cr8Access exiting c = if exiting then Exit else if not (useTprShadow c) then Passthrough else Redirected
 
--- From CR8: exit 28 if control 8; passthrough if no shadow; else redirected.
-unfoldable pub fromCr8 : Controls → Access
-fromCr8 c = if cr8StoreExiting c then Exit else if not (useTprShadow c) then Passthrough else Redirected
+-- To CR8: control 7. From CR8: control 8.
+abbrev pub toCr8 : Controls → Access
+toCr8 c = cr8Access (cr8LoadExiting c) c
+
+abbrev pub fromCr8 : Controls → Access
+fromCr8 c = cr8Access (cr8StoreExiting c) c
 
 -- exit 28's qualification: 8 + 256 × register to CR8, 24 + 256 × register from it
 abbrev pub toCr8Qualification : ℕ → ℕ

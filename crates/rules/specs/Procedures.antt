@@ -12,7 +12,7 @@ class v = v / 16
 
 -- a byte with its low four bits cleared
 abbrev pub lowCleared : ℕ → ℕ
-lowCleared v = v / 16 * 16
+lowCleared v = 16 * class v
 
 -- PPR virtualization: if VTPR's class ≥ SVI's class, VTPR's low byte, else SVI with its low four bits cleared.
 unfoldable pub ppr : ℕ → ℕ → ℕ

@@ -1,13 +1,13 @@
 // What an access to CR8 comes to.
 ghost use mathlib.Core.Path.{_≡_};
-ghost use Rattle.rules.specs.Cr8Msr.{toCr8, fromCr8, toCr8Qualification, fromCr8Qualification};
+ghost use Rattle.rules.specs.Cr8Msr.{cr8Access, toCr8, fromCr8, toCr8Qualification, fromCr8Qualification};
 use crate::controls::Controls;
 use crate::memory::Access;
 
-pub fn to_cr8(c: Controls) -> Access
-    ensures { λ r. ⌜ r ≡ toCr8 c ⌝ }
+fn cr8_access(exiting: bool, c: Controls) -> Access
+    ensures { λ r. ⌜ r ≡ cr8Access exiting c ⌝ }
 {
-    if c.cr8_load_exiting() {
+    if exiting {
         return Access::Exit;
     }
     if !c.use_tpr_shadow() {
@@ -16,16 +16,16 @@ pub fn to_cr8(c: Controls) -> Access
     Access::Redirected
 }
 
+pub fn to_cr8(c: Controls) -> Access
+    ensures { λ r. ⌜ r ≡ toCr8 c ⌝ }
+{
+    cr8_access(c.cr8_load_exiting(), c)
+}
+
 pub fn from_cr8(c: Controls) -> Access
     ensures { λ r. ⌜ r ≡ fromCr8 c ⌝ }
 {
-    if c.cr8_store_exiting() {
-        return Access::Exit;
-    }
-    if !c.use_tpr_shadow() {
-        return Access::Passthrough;
-    }
-    Access::Redirected
+    cr8_access(c.cr8_store_exiting(), c)
 }
 
 pub fn to_cr8_qualification(register: u8) -> u64

@@ -14,7 +14,7 @@ pub fn class_of(vector: u8) -> u8
 pub fn low_cleared(vector: u8) -> u8
     ensures { λ r. ⌜ r ≡ lowCleared vector ⌝ }
 {
-    vector / 16 * 16
+    16 * (vector / 16)
 }
 
 // What PPR virtualization stores.

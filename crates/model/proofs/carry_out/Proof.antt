@@ -1,175 +1,128 @@
+-- `model::carry_out` meets its contract: code and definition take the same cases. Assumes nothing.
 use Rattle.model.proofs.Bounds.{byte-vector}
 use Rattle.model.specs.Step.{carriedOut}
 use borrow.Author.Needs.{needs}
 use Rattle.model.proofs.carry_out.Statement.{statement}
 use Rattle.model.proofs.carry_out.Tie as tie
-use Rattle.model.proofs.carry_out.Reads as reads
-use Rattle.model.proofs.carry_out.Lts as lts
-use Rattle.model.proofs.boundary.boundary.Reads as boundary-reads
-use Rattle.model.proofs.cr8.mov_from_cr8.Reads as mov-from-cr8-reads
-use Rattle.model.proofs.cr8.mov_to_cr8.Reads as mov-to-cr8-reads
-use Rattle.model.proofs.entry.entry.Reads as entry-reads
-use Rattle.model.proofs.entry.request.Reads as request-reads
-use Rattle.model.proofs.memory.memory_read.Reads as memory-read-reads
-use Rattle.model.proofs.memory.memory_write.Reads as memory-write-reads
-use Rattle.model.proofs.msr.read_msr.Reads as read-msr-reads
-use Rattle.model.proofs.msr.write_msr.Reads as write-msr-reads
 
--- src/lib.rt:31:22
 enum-known-event : tie.Need-enum-known-event
 enum-known-event c = search needs
 
--- src/lib.rt:31:35
 entry-requires : tie.Need-entry-requires
-entry-requires c κs = search needs
+entry-requires c κs = tt
 
--- src/lib.rt:32:24
 enum-known-event-2 : tie.Need-enum-known-event-2
 enum-known-event-2 c = search needs
 
--- src/lib.rt:32:64
 cast-request : tie.Need-cast-request
 cast-request c = search needs
 
--- src/lib.rt:32:35
 request-requires : tie.Need-request-requires
-request-requires c κs = search needs
+request-requires c κs = tt
 
--- src/lib.rt:33:29
 enum-known-event-3 : tie.Need-enum-known-event-3
 enum-known-event-3 c = search needs
 
--- src/lib.rt:33:61
 memory-read-requires : tie.Need-memory-read-requires
-memory-read-requires c κs = search needs
+memory-read-requires c κs = tt
 
--- src/lib.rt:34:30
 enum-known-event-4 : tie.Need-enum-known-event-4
 enum-known-event-4 c = search needs
 
--- src/lib.rt:34:69
 memory-write-requires : tie.Need-memory-write-requires
-memory-write-requires c κs = search needs
+memory-write-requires c κs = tt
 
--- src/lib.rt:35:24
 enum-known-event-5 : tie.Need-enum-known-event-5
 enum-known-event-5 c = search needs
 
--- src/lib.rt:35:45
 mov-to-cr8-requires : tie.Need-mov-to-cr8-requires
-mov-to-cr8-requires c κs = search needs
+mov-to-cr8-requires c κs = tt
 
--- src/lib.rt:36:24
 enum-known-event-6 : tie.Need-enum-known-event-6
 enum-known-event-6 c = search needs
 
--- src/lib.rt:36:37
 mov-from-cr8-requires : tie.Need-mov-from-cr8-requires
-mov-from-cr8-requires c κs = search needs
+mov-from-cr8-requires c κs = tt
 
--- src/lib.rt:37:22
 enum-known-event-7 : tie.Need-enum-known-event-7
 enum-known-event-7 c = search needs
 
--- src/lib.rt:37:32
 read-msr-requires : tie.Need-read-msr-requires
-read-msr-requires c κs = search needs
+read-msr-requires c κs = tt
 
--- src/lib.rt:38:24
 enum-known-event-8 : tie.Need-enum-known-event-8
 enum-known-event-8 c = search needs
 
--- src/lib.rt:38:42
 write-msr-requires : tie.Need-write-msr-requires
-write-msr-requires c κs = search needs
+write-msr-requires c κs = tt
 
--- src/lib.rt:39:27
 enum-known-event-9 : tie.Need-enum-known-event-9
 enum-known-event-9 c = search needs
 
--- src/lib.rt:39:66
 boundary-requires : tie.Need-boundary-requires
-boundary-requires c κs = search needs
+boundary-requires c κs = tt
 
--- src/lib.rt:26:1
 same-length : tie.Need-same-length
 same-length c = search needs
 
--- src/lib.rt:26:1
 returns : tie.Need-returns
 unfolding carriedOut
 returns c = simp (c .before .before .before .before .before .event .given .1) (c .before .before .entry .ensures)
 
--- src/lib.rt:26:1
 same-length-2 : tie.Need-same-length-2
 same-length-2 c = search needs
 
--- src/lib.rt:26:1
 returns-2 : tie.Need-returns-2
 unfolding carriedOut
 returns-2 c =
     simp (c .before .before .before .before .before .event2 .given .1)
     (rw (byte-vector _ _ (c .before .before .before .before .before .event2 .given .1) (c .before .before .before .before .before .before .before .before .pre)) at (c .before .before .request .ensures))
 
--- src/lib.rt:26:1
 same-length-3 : tie.Need-same-length-3
 same-length-3 c = search needs
 
--- src/lib.rt:26:1
 returns-3 : tie.Need-returns-3
 unfolding carriedOut
 returns-3 c = simp (c .before .before .before .event3 .given .1) (c .memory-read .ensures)
 
--- src/lib.rt:26:1
 same-length-4 : tie.Need-same-length-4
 same-length-4 c = search needs
 
--- src/lib.rt:26:1
 returns-4 : tie.Need-returns-4
 unfolding carriedOut
 returns-4 c = simp (c .before .before .before .before .before .event4 .given .1) (c .before .before .memory-write .ensures)
 
--- src/lib.rt:26:1
 same-length-5 : tie.Need-same-length-5
 same-length-5 c = search needs
 
--- src/lib.rt:26:1
 returns-5 : tie.Need-returns-5
 unfolding carriedOut
 returns-5 c = simp (c .before .before .before .before .before .event5 .given .1) (c .before .before .mov-to-cr8 .ensures)
 
--- src/lib.rt:26:1
 same-length-6 : tie.Need-same-length-6
 same-length-6 c = search needs
 
--- src/lib.rt:26:1
 returns-6 : tie.Need-returns-6
 unfolding carriedOut
 returns-6 c = simp (c .before .before .before .event6 .given .1) (c .mov-from-cr8 .ensures)
 
--- src/lib.rt:26:1
 same-length-7 : tie.Need-same-length-7
 same-length-7 c = search needs
 
--- src/lib.rt:26:1
 returns-7 : tie.Need-returns-7
 unfolding carriedOut
 returns-7 c = simp (c .before .before .before .event7 .given .1) (c .read-msr .ensures)
 
--- src/lib.rt:26:1
 same-length-8 : tie.Need-same-length-8
 same-length-8 c = search needs
 
--- src/lib.rt:26:1
 returns-8 : tie.Need-returns-8
 unfolding carriedOut
 returns-8 c = simp (c .before .before .before .before .before .event8 .given .1) (c .before .before .write-msr .ensures)
 
--- src/lib.rt:26:1
 same-length-9 : tie.Need-same-length-9
 same-length-9 c = search needs
 
--- src/lib.rt:26:1
 returns-9 : tie.Need-returns-9
 unfolding carriedOut
 returns-9 c = simp (c .before .before .before .before .before .event9 .given .1) (c .before .before .boundary .ensures)

@@ -1,36 +1,27 @@
+-- `model::memory::clear_three` meets its contract: code and definition take the same cases. Assumes nothing.
 use Rattle.model.specs.Memory.{clearThree}
 use borrow.Author.Needs.{needs}
 use Rattle.model.proofs.memory.clear_three.Statement.{statement}
 use Rattle.model.proofs.memory.clear_three.Tie as tie
-use Rattle.model.proofs.memory.clear_three.Reads as reads
-use Rattle.model.proofs.memory.clear_three.Lts as lts
-use Rattle.page.proofs.bytes.set_byte.Reads as set-byte-reads
 
--- src/memory.rt:48:5
 set-byte-requires : tie.Need-set-byte-requires
-set-byte-requires c κs = search needs
+set-byte-requires c κs = tt
 
--- src/memory.rt:49:20
 add-set-byte : tie.Need-add-set-byte
 add-set-byte c = search needs
 
--- src/memory.rt:49:5
 set-byte-requires-2 : tie.Need-set-byte-requires-2
-set-byte-requires-2 c κs = search needs
+set-byte-requires-2 c κs = tt
 
--- src/memory.rt:50:20
 add-set-byte-2 : tie.Need-add-set-byte-2
 add-set-byte-2 c = search needs
 
--- src/memory.rt:50:5
 set-byte-requires-3 : tie.Need-set-byte-requires-3
-set-byte-requires-3 c κs = search needs
+set-byte-requires-3 c κs = tt
 
--- src/memory.rt:44:1
 same-length : tie.Need-same-length
 same-length c = search needs
 
--- src/memory.rt:44:1
 returns : tie.Need-returns
 unfolding clearThree
 returns c = simp ((c .before .before .set-byte3 .ensures), (c .before .before .before .before .before .before .set-byte2 .ensures), (c .before .before .before .before .before .before .before .before .before .before .set-byte .ensures))

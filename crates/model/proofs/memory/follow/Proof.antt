@@ -1,127 +1,91 @@
+-- `model::memory::follow` meets its contract: code and definition take the same cases. Assumes nothing.
 use Rattle.model.specs.Memory.{followBy}
 use borrow.Author.Needs.{needs}
 use Rattle.model.proofs.memory.follow.Statement.{statement}
 use Rattle.model.proofs.memory.follow.Tie as tie
-use Rattle.model.proofs.memory.follow.Reads as reads
-use Rattle.model.proofs.memory.follow.Lts as lts
-use Rattle.model.proofs.memory.clear_three.Reads as clear-three-reads
-use Rattle.model.proofs.outcome.exit.Reads as exit-reads
-use Rattle.model.proofs.outcome.quiet.Reads as quiet-reads
-use Rattle.model.proofs.procedures.eoi_virtualization.Reads as eoi-virtualization-reads
-use Rattle.model.proofs.procedures.self_ipi_virtualization.Reads as self-ipi-virtualization-reads
-use Rattle.model.proofs.procedures.tpr_virtualization.Reads as tpr-virtualization-reads
-use Rattle.page.proofs.bytes.byte_at.Reads as byte-at-reads
-use Rattle.page.proofs.bytes.set_word.Reads as set-word-reads
 
--- src/memory.rt:58:25
 enum-told : tie.Need-enum-told
 enum-told c = search needs
 
--- src/memory.rt:58:31
 cast-clear-three : tie.Need-cast-clear-three
 cast-clear-three c = search needs
 
--- src/memory.rt:58:31
 add-clear-three : tie.Need-add-clear-three
 add-clear-three c = search needs
 
--- src/memory.rt:58:13
 clear-three-requires : tie.Need-clear-three-requires
-clear-three-requires c κs = search needs
+clear-three-requires c κs = tt
 
--- src/memory.rt:59:13
 tpr-virtualization-requires : tie.Need-tpr-virtualization-requires
-tpr-virtualization-requires c κs = search needs
+tpr-virtualization-requires c κs = tt
 
--- src/memory.rt:62:22
 enum-told-2 : tie.Need-enum-told-2
 enum-told-2 c = search needs
 
--- src/memory.rt:62:13
 set-word-requires : tie.Need-set-word-requires
-set-word-requires c κs = search needs
+set-word-requires c κs = tt
 
--- src/memory.rt:63:13
 eoi-virtualization-requires : tie.Need-eoi-virtualization-requires
-eoi-virtualization-requires c κs = search needs
+eoi-virtualization-requires c κs = tt
 
--- src/memory.rt:66:34
 enum-told-3 : tie.Need-enum-told-3
 enum-told-3 c = search needs
 
--- src/memory.rt:66:40
 cast-byte-at : tie.Need-cast-byte-at
 cast-byte-at c = search needs
 
--- src/memory.rt:66:17
 byte-at-requires : tie.Need-byte-at-requires
-byte-at-requires c κs = search needs
+byte-at-requires c κs = tt
 
--- src/memory.rt:67:13
 self-ipi-virtualization-requires : tie.Need-self-ipi-virtualization-requires
-self-ipi-virtualization-requires c κs = search needs
+self-ipi-virtualization-requires c κs = tt
 
--- src/memory.rt:70:25
 enum-told-4 : tie.Need-enum-told-4
 enum-told-4 c = search needs
 
--- src/memory.rt:70:31
 cast-clear-three-2 : tie.Need-cast-clear-three-2
 cast-clear-three-2 c = search needs
 
--- src/memory.rt:70:13
 clear-three-requires-2 : tie.Need-clear-three-requires-2
-clear-three-requires-2 c κs = search needs
+clear-three-requires-2 c κs = tt
 
--- src/memory.rt:71:13
 quiet-requires : tie.Need-quiet-requires
-quiet-requires c κs = search needs
+quiet-requires c κs = tt
 
--- src/memory.rt:73:50
 enum-told-5 : tie.Need-enum-told-5
 enum-told-5 c = search needs
 
--- src/memory.rt:73:33
 exit-requires : tie.Need-exit-requires
-exit-requires c κs = search needs
+exit-requires c κs = tt
 
--- src/memory.rt:53:1
 same-length : tie.Need-same-length
 same-length c = search needs
 
--- src/memory.rt:53:1
 returns : tie.Need-returns
 unfolding followBy
 returns c = simp (c .before .before .before .before .before .before .before .before .enum-told .given .1, ← (c .before .before .before .before .before .before .clear-three .ensures)) (c .before .before .tpr-virtualization .ensures)
 
--- src/memory.rt:53:1
 same-length-2 : tie.Need-same-length-2
 same-length-2 c = search needs
 
--- src/memory.rt:53:1
 returns-2 : tie.Need-returns-2
 unfolding followBy
 returns-2 c = simp (c .before .before .before .before .before .before .before .before .enum-told2 .given .1, ← (c .before .before .before .before .before .before .set-word .ensures)) (c .before .before .eoi-virtualization .ensures)
 
--- src/memory.rt:53:1
 same-length-3 : tie.Need-same-length-3
 same-length-3 c = search needs
 
--- src/memory.rt:53:1
 returns-3 : tie.Need-returns-3
 unfolding followBy
 returns-3 c = simp (c .before .before .before .before .before .before .enum-told3 .given .1, ← (c .before .before .before .before .byte-at .ensures)) (c .before .before .self-ipi-virtualization .ensures)
 
--- src/memory.rt:53:1
 same-length-4 : tie.Need-same-length-4
 same-length-4 c = search needs
 
--- src/memory.rt:53:1
 returns-4 : tie.Need-returns-4
 unfolding followBy
 returns-4 c = simp (c .before .before .before .before .before .enum-told4 .given .1, ← (c .before .before .before .clear-three2 .ensures)) (c .quiet .ensures _)
 
--- src/memory.rt:53:1
 returns-5 : tie.Need-returns-5
 unfolding followBy
 returns-5 c = simp (c .before .enum-told5 .given .1) (c .exit .ensures _)

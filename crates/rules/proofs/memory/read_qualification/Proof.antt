@@ -1,24 +1,19 @@
+-- `rules::memory::read_qualification` meets its contract: code and definition take the same cases. Assumes nothing.
 use Rattle.rules.specs.Memory.{readQualification}
 use borrow.Author.Needs.{needs}
 use Rattle.rules.proofs.memory.read_qualification.Statement.{statement}
 use Rattle.rules.proofs.memory.read_qualification.Tie as tie
-use Rattle.rules.proofs.memory.read_qualification.Reads as reads
-use Rattle.rules.proofs.memory.read_qualification.Lts as lts
 
--- src/memory.rt:124:16
 add-result : tie.Need-add-result
 add-result c = search needs
 
--- src/memory.rt:124:9
 returns : tie.Need-returns
 unfolding readQualification
 returns c = simp (c .if1 .taken)
 
--- src/memory.rt:126:5
 add-result-2 : tie.Need-add-result-2
 add-result-2 c = search needs
 
--- src/memory.rt:120:1
 returns-2 : tie.Need-returns-2
 unfolding readQualification
 returns-2 c = simp (c .if1 .left)

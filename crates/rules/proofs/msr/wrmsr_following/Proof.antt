@@ -1,26 +1,21 @@
+-- `rules::msr::wrmsr_following` meets its contract: code and definition take the same cases. Assumes nothing.
 use borrow.Author.Tests.{eq-eqb, le-ltb, lt-ltb, ne-eqb}
 use Rattle.rules.specs.Cr8Msr.{wrmsrFollowing}
 use Rattle.rules.proofs.msr.wrmsr_following.Statement.{statement}
 use Rattle.rules.proofs.msr.wrmsr_following.Tie as tie
-use Rattle.rules.proofs.msr.wrmsr_following.Reads as reads
-use Rattle.rules.proofs.msr.wrmsr_following.Lts as lts
 
--- src/msr.rt:45:9
 returns : tie.Need-returns
 unfolding wrmsrFollowing
 returns c = simp (eq-eqb _ _ (c .if1 .taken))
 
--- src/msr.rt:48:9
 returns-2 : tie.Need-returns-2
 unfolding wrmsrFollowing
 returns-2 c = simp (ne-eqb _ _ (c .before .if1 .left), eq-eqb _ _ (c .if2 .taken))
 
--- src/msr.rt:51:9
 returns-3 : tie.Need-returns-3
 unfolding wrmsrFollowing
 returns-3 c = simp (ne-eqb _ _ (c .before .before .if1 .left), ne-eqb _ _ (c .before .if2 .left), lt-ltb _ _ (c .if3 .taken))
 
--- src/msr.rt:41:1
 returns-4 : tie.Need-returns-4
 unfolding wrmsrFollowing
 returns-4 c = simp (ne-eqb _ _ (c .before .before .if1 .left), ne-eqb _ _ (c .before .if2 .left), le-ltb _ _ (c .if3 .left))

@@ -1,36 +1,25 @@
-use borrow.Author.Needs.{needs}
+-- `rules::msr::wrmsr_of` meets its contract: code and definition take the same cases. Assumes nothing.
 use Rattle.rules.specs.Cr8Msr.{wrmsr}
 use Rattle.rules.proofs.msr.wrmsr_of.Statement.{statement}
 use Rattle.rules.proofs.msr.wrmsr_of.Tie as tie
-use Rattle.rules.proofs.msr.wrmsr_of.Reads as reads
-use Rattle.rules.proofs.msr.wrmsr_of.Lts as lts
-use Rattle.rules.proofs.msr.wrmsr_faults.Reads as wrmsr-faults-reads
-use Rattle.rules.proofs.msr.wrmsr_following.Reads as wrmsr-following-reads
-use Rattle.rules.proofs.msr.wrmsr_handled.Reads as wrmsr-handled-reads
 
--- src/msr.rt:59:9
 wrmsr-handled-requires : tie.Need-wrmsr-handled-requires
-wrmsr-handled-requires c κs = search needs
+wrmsr-handled-requires c κs = tt
 
--- src/msr.rt:60:9
 returns : tie.Need-returns
 unfolding wrmsr
 returns c = simp (← (c .before .wrmsr-handled .ensures), c .if1 .taken)
 
--- src/msr.rt:62:8
 wrmsr-faults-requires : tie.Need-wrmsr-faults-requires
-wrmsr-faults-requires c κs = search needs
+wrmsr-faults-requires c κs = tt
 
--- src/msr.rt:63:9
 returns-2 : tie.Need-returns-2
 unfolding wrmsr
 returns-2 c = simp (← (c .before .before .before .wrmsr-handled .ensures), c .before .before .if1 .left, ← (c .before .wrmsr-faults .ensures), c .if2 .taken)
 
--- src/msr.rt:65:5
 wrmsr-following-requires : tie.Need-wrmsr-following-requires
-wrmsr-following-requires c κs = search needs
+wrmsr-following-requires c κs = tt
 
--- src/msr.rt:56:1
 returns-3 : tie.Need-returns-3
 unfolding wrmsr
 returns-3 c = simp (← (c .before .before .before .before .wrmsr-handled .ensures), c .before .before .before .if1 .left, ← (c .before .before .wrmsr-faults .ensures), c .before .if2 .left, ← (c .wrmsr-following .ensures))

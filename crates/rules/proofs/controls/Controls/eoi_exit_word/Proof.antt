@@ -1,26 +1,21 @@
+-- `rules::controls::Controls::eoi_exit_word` meets its contract: code and definition take the same cases. Assumes nothing.
 use borrow.Author.Tests.{eq-eqb, ne-eqb}
 use Rattle.rules.specs.Controls.{eoiExitWord}
 use Rattle.rules.proofs.controls.Controls.eoi_exit_word.Statement.{statement}
 use Rattle.rules.proofs.controls.Controls.eoi_exit_word.Tie as tie
-use Rattle.rules.proofs.controls.Controls.eoi_exit_word.Reads as reads
-use Rattle.rules.proofs.controls.Controls.eoi_exit_word.Lts as lts
 
--- src/controls.rt:88:13
 returns : tie.Need-returns
 unfolding eoiExitWord
 returns c = simp (eq-eqb _ _ (c .if1 .taken))
 
--- src/controls.rt:91:13
 returns-2 : tie.Need-returns-2
 unfolding eoiExitWord
 returns-2 c = simp (ne-eqb _ _ (c .before .if1 .left), eq-eqb _ _ (c .if2 .taken))
 
--- src/controls.rt:94:13
 returns-3 : tie.Need-returns-3
 unfolding eoiExitWord
 returns-3 c = simp (ne-eqb _ _ (c .before .before .if1 .left), ne-eqb _ _ (c .before .if2 .left), eq-eqb _ _ (c .if3 .taken))
 
--- src/controls.rt:84:5
 returns-4 : tie.Need-returns-4
 unfolding eoiExitWord
 returns-4 c = simp (ne-eqb _ _ (c .before .before .if1 .left), ne-eqb _ _ (c .before .if2 .left), ne-eqb _ _ (c .if3 .left))

@@ -1,0 +1,155 @@
+-- What every run keeps: one invariant with named parts, one step, one induction. Assumes nothing.
+use Prim.Native.Nat.{ℕ, zero, suc, _≤_, _<_}
+use native.Mathlib.Omega.{arith}
+use mathlib.Core.Path.{_≡_, refl, sym, _∙_, ap, subst}
+use mathlib.Core.Bool.{Bool, true, false, not, _&&_, true≢false, false≢true}
+use mathlib.Core.List.{List, [], _∷_}
+use lib.Dec.{T, eqb, ltb, lit<, T-not}
+use lib.ListN.{length, getD, replicate, length-replicate}
+use borrow.Author.Tests.{ltb-true}
+use Rattle.rules.specs.Logic.{if_then_else_, allBelow}
+use Rattle.rules.specs.Controls.{interruptWindowExiting, fresh}
+use Rattle.rules.specs.Procedures.{class, evaluated, larger}
+use Rattle.rules.specs.declared.controls.Record.{Record}
+use Rattle.rules.specs.declared.event.Event.{Event}
+use Rattle.rules.proofs.Tests.{below}
+use Rattle.page.specs.Page.{vppr, visr, virr, byteAt, isSet, highestBelow, highest, IsPage}
+use Rattle.page.proofs.Top.{top, highest-top, top-ext, top-raise}
+use Rattle.page.proofs.Registers.{highest-ext, highest-byte}
+use Rattle.model.specs.After.{After}
+use Rattle.model.specs.Run.{zeroPage}
+use Rattle.runs.specs.Moves.{Move, stays, raises, delivers, retires, moveOf, put, Moved, Deliverable}
+use Rattle.runs.specs.Settled.{ByteRecord, Settled}
+use Rattle.runs.specs.History.{deliveryOn, AllOn, none, more, Held, start, stepOf, heldAfter, after, answers, served, inService, member, rest}
+use Rattle.runs.proofs.Laws.{laws, moves, settles}
+use Rattle.runs.proofs.Leaves.{Good}
+use Rattle.runs.proofs.Ladder.{Ladder, foot, rung, front, ladder-top, pushed, popped, behind}
+
+-- vs are the vectors in service, the latest first
+pub record Inv (vs : List ℕ) (h : Held) : Type 0 where
+  pub isPage : IsPage (h .page)
+  pub rvi : h .state .rvi ≡ highest (h .page) virr
+  pub svi : h .state .svi ≡ highest (h .page) visr
+  pub settled : Settled (h .page) (h .state)
+  pub service : (w : ℕ) → w < 256 → isSet (h .page) visr w ≡ member w vs
+  pub ladder : Ladder vs
+
+-- RVI and SVI are bytes
+pub byte-record : (vs : List ℕ) (h : Held) → Inv vs h → ByteRecord (h .state)
+byte-record vs h i = record {
+  rvi = rw (i .rvi) (highest-byte (h .page) virr);
+  svi = rw (i .svi) (highest-byte (h .page) visr);
+}
+
+-- SVI is the latest delivered
+pub svi-front : (vs : List ℕ) (h : Held) → Inv vs h → h .state .svi ≡ front vs
+unfolding highest
+svi-front vs h i = i .svi ∙ highest-top (h .page) visr 256 ∙ ladder-top (isSet (h .page) visr) vs (i .ladder) (i .service)
+
+-- what is delivered has a class above that of the latest in service
+pub above : (vs : List ℕ) (h : Held) → Inv vs h → h .state .guest ≡ true → h .state .recognised ≡ true → class (front vs) < class (h .state .rvi)
+above vs h i t r = over (i .settled .priority t) (ltb-true (class (byteAt (h .page) vppr)) (class (h .state .rvi)) exceeds)
+  where
+    right : (a b : Bool) → (a && b) ≡ true → b ≡ true
+    right true b e = e
+    right false b e = absurd (false≢true e)
+
+    exceeds : ltb (class (byteAt (h .page) vppr)) (class (h .state .rvi)) ≡ true
+    exceeds = right (not (interruptWindowExiting (h .state .controls))) _ (sym (i .settled .recognised ∙ simp t) ∙ r)
+
+    over : class (h .state .svi) ≤ class (byteAt (h .page) vppr) → class (byteAt (h .page) vppr) < class (h .state .rvi) → class (front vs) < class (h .state .rvi)
+    over a b = subst (λ x. class x < class (h .state .rvi)) (svi-front vs h i) (less a b)
+      where
+        less : class (h .state .svi) ≤ class (byteAt (h .page) vppr) → class (byteAt (h .page) vppr) < class (h .state .rvi) → class (h .state .svi) < class (h .state .rvi)
+        less a b = omega arith
+
+-- the registers' highest bits, the service bits and their ladder after a move
+module _ (vs : List ℕ) (h : Held) (a : After) (i : Inv vs h) where
+  raised : (v : ℕ) → v < 256 → ((w : ℕ) → w < 256 → isSet (a .page) virr w ≡ put (isSet (h .page) virr) v true w) → larger (h .state .rvi) v ≡ highest (a .page) virr
+  unfolding highest
+  raised v l e =
+      ap (λ t. larger t v) (i .rvi ∙ highest-top (h .page) virr 256)
+      ∙ sym (top-raise (isSet (h .page) virr) 256 v l)
+      ∙ sym (top-ext (isSet (a .page) virr) (put (isSet (h .page) virr) v true) 256 e)
+      ∙ sym (highest-top (a .page) virr 256)
+
+  latest : (us : List ℕ) → Ladder us → ((w : ℕ) → w < 256 → isSet (a .page) visr w ≡ member w us) → front us ≡ highest (a .page) visr
+  unfolding highest
+  latest us l e = sym (highest-top (a .page) visr 256 ∙ ladder-top (isSet (a .page) visr) us l e)
+
+  by-move : (m : Move) → IsPage (a .page) → Settled (a .page) (a .state) → Moved m (h .page) (h .state) a → Inv (served m vs) (heldAfter a)
+  by-move stays g s d = record {
+    isPage = g;
+    rvi = d .rvi ∙ i .rvi ∙ sym (highest-ext (a .page) (h .page) virr (d .request));
+    svi = d .svi ∙ i .svi ∙ sym (highest-ext (a .page) (h .page) visr (d .service));
+    settled = s;
+    service = λ w l. d .service w l ∙ i .service w l;
+    ladder = i .ladder;
+  }
+  by-move (raises v) g s d = record {
+    isPage = g;
+    rvi = d .rvi ∙ raised v (d .vector) (d .request);
+    svi = d .svi ∙ i .svi ∙ sym (highest-ext (a .page) (h .page) visr (d .service));
+    settled = s;
+    service = λ w l. d .service w l ∙ i .service w l;
+    ladder = i .ladder;
+  }
+  by-move (delivers v) g s d = record {
+    isPage = g;
+    rvi = d .rvi;
+    svi = d .svi ∙ latest (v ∷ vs) ladder′ service′;
+    settled = s;
+    service = service′;
+    ladder = ladder′;
+  }
+    where
+      ladder′ : Ladder (v ∷ vs)
+      ladder′ =
+          rung {v = v} {vs = vs} (subst (λ x. x < 256) (sym (d .vector .isRvi)) (byte-record vs h i .rvi))
+          (subst (λ x. class (front vs) < class x) (sym (d .vector .isRvi)) (above vs h i (d .vector .guest) (d .vector .recognised))) (i .ladder)
+
+      service′ : (w : ℕ) → w < 256 → isSet (a .page) visr w ≡ member w (v ∷ vs)
+      service′ w l = d .service w l ∙ pushed (isSet (h .page) visr) v vs w (i .service w l)
+  by-move retires g s d = record {
+    isPage = g;
+    rvi = d .rvi ∙ i .rvi ∙ sym (highest-ext (a .page) (h .page) virr (d .request));
+    svi = d .svi;
+    settled = s;
+    service = λ w l. d .service w l ∙ ap (λ x. put (isSet (h .page) visr) x false w) (svi-front vs h i) ∙ popped (isSet (h .page) visr) vs (i .ladder) w (i .service w l);
+    ladder = behind vs (i .ladder);
+  }
+
+pub inv-step : (vs : List ℕ) (h : Held) (e : Event) → Inv vs h → deliveryOn e → Inv (served (moveOf e (stepOf h e .answer)) vs) (heldAfter (stepOf h e))
+inv-step vs h e i d =
+    let good : Good (h .page) (h .state) e (stepOf h e) = laws (h .page) (h .state) (i .isPage) (byte-record vs h i) e in
+    by-move vs h (stepOf h e) i (moveOf e (stepOf h e .answer)) (good .isPage) (good .settled (i .rvi) (i .settled) d) (good .moved)
+
+-- ---- the start
+zero-byte : (n i : ℕ) → getD {A = ℕ} (replicate n 0) i 0 ≡ 0
+zero-byte zero i = refl
+zero-byte (suc n) zero = refl
+zero-byte (suc n) (suc i) = zero-byte n i
+
+no-service : T (allBelow 256 (λ w. not (isSet zeroPage visr w)))
+unfolding isSet
+no-service = tt
+
+pub start-inv : Inv [] start
+unfolding highest highestBelow isSet
+start-inv = record {
+  isPage = record { size = length-replicate {A = ℕ} 4096 0; bytes = λ i. rw (zero-byte 4096 i) (lit< tt) };
+  rvi = refl;
+  svi = refl;
+  settled = record { on = λ t. absurd (false≢true t); recognised = refl; priority = λ t. absurd (false≢true t) };
+  service = λ w l. clear (isSet zeroPage visr w) (below 256 (λ w. not (isSet zeroPage visr w)) no-service w l);
+  ladder = foot;
+}
+  where
+    clear : (b : Bool) → T (not b) → b ≡ false
+    clear true t = absurd t
+    clear false t = refl
+
+-- ---- every run
+pub run-inv : (vs : List ℕ) (h : Held) (es : List Event) → AllOn es → Inv vs h → Inv (inService vs es (answers h es)) (after h es)
+run-inv vs h [] none i = i
+run-inv vs h (e ∷ es) (more d o) i = run-inv (served (moveOf e (stepOf h e .answer)) vs) (heldAfter (stepOf h e)) es o (inv-step vs h e i d)

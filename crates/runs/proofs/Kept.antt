@@ -1,0 +1,139 @@
+-- Pages that agree in their request and service bits, and in VPPR too, and which stores keep that. Assumes nothing.
+use Prim.Native.Nat.{ℕ, _+_, _/_, _%_, _≤_, _<_}
+use native.Mathlib.Nat.{add-assoc}
+use native.Mathlib.Omega.{arith}
+use mathlib.Core.Path.{_≡_, refl, sym, _∙_, ap, subst}
+use mathlib.Core.Bool.{Bool, true, false, not, _&&_, _||_, true≢false}
+use mathlib.Core.Logic.{_⊎_, inl, inr, ⊎-elim}
+use mathlib.Core.List.{List}
+use lib.Dec.{T, eqb, leb, ltb}
+use lib.ListN.{length, getD, set, length-set}
+use lib.Seq.{getD-set-same, getD-set-other, set-out}
+use borrow.Author.Tests.{eqb-true, eqb-false, ltb-true, ltb-false, leb-true}
+use Rattle.page.specs.Page.{vppr, visr, virr, byteAt, setByte, setHalf, setWord, setLong, vectorByte, isSet, IsPage}
+use Rattle.page.proofs.Registers.{isSet-other, vector-within}
+
+-- q is a page with the request and service bits of p
+pub record Same (p q : List ℕ) : Type 0 where
+  pub isPage : IsPage q
+  pub request : (w : ℕ) → w < 256 → isSet q virr w ≡ isSet p virr w
+  pub service : (w : ℕ) → w < 256 → isSet q visr w ≡ isSet p visr w
+
+-- and with the VPPR of p
+pub record Kept (p q : List ℕ) : Type 0 where
+  pub same : Same p q
+  pub vppr : byteAt q vppr ≡ byteAt p vppr
+
+pub same-refl : (p : List ℕ) → IsPage p → Same p p
+same-refl p g = record { isPage = g; request = λ w h. refl; service = λ w h. refl }
+
+pub kept-refl : (p : List ℕ) → IsPage p → Kept p p
+kept-refl p g = record { same = same-refl p g; vppr = refl }
+
+-- a byte stored keeps a page a page
+set-byte : (p : List ℕ) (i x : ℕ) → ((j : ℕ) → byteAt p j < 256) → x < 256 → (j : ℕ) → byteAt (set p i x) j < 256
+set-byte p i x h hx j = by (eqb j i) refl
+  where
+    at : (b : Bool) → ltb i (length p) ≡ b → byteAt (set p i x) i < 256
+    at true e = rw (getD-set-same p i x 0 (ltb-true i (length p) e)) hx
+    at false e = rw (set-out p i x (ltb-false i (length p) e)) (h i)
+
+    by : (b : Bool) → eqb j i ≡ b → byteAt (set p i x) j < 256
+    by true e = rw (eqb-true j i e) (at (ltb i (length p)) refl)
+    by false e = rw (getD-set-other p i j x 0 (eqb-false j i e)) (h j)
+
+pub page-set : (p : List ℕ) (i x : ℕ) → IsPage p → x < 256 → IsPage (setByte p i x)
+page-set p i x g hx = record { size = length-set p i x ∙ g .size; bytes = set-byte p i x (g .bytes) hx }
+
+-- the byte lies apart from both registers
+abbrev pub apart : ℕ → Bool
+apart i = ltb i 0x100 || leb 0x280 i
+
+either : (a b : Bool) → (a || b) ≡ true → (a ≡ true) ⊎ (b ≡ true)
+either true b e = inl refl
+either false b e = inr e
+
+apart-is : (i : ℕ) → apart i ≡ true → (i < 0x100) ⊎ (0x280 ≤ i)
+apart-is i e = ⊎-elim (λ t. inl (ltb-true i 0x100 t)) (λ t. inr (leb-true 0x280 i t)) (either (ltb i 0x100) (leb 0x280 i) e)
+
+apart-visr : (i w : ℕ) → apart i ≡ true → w < 256 → 0x100 + vectorByte w ≡ i → ⊥
+apart-visr i w e h q = ⊎-elim (λ l. low (vector-within w h) l) (λ l. high (vector-within w h) l) (apart-is i e)
+  where
+    low : vectorByte w < 0x80 → i < 0x100 → ⊥
+    low a b = omega arith
+
+    high : vectorByte w < 0x80 → 0x280 ≤ i → ⊥
+    high a b = omega arith
+
+apart-virr : (i w : ℕ) → apart i ≡ true → w < 256 → 0x200 + vectorByte w ≡ i → ⊥
+apart-virr i w e h q = ⊎-elim (λ l. low (vector-within w h) l) (λ l. high (vector-within w h) l) (apart-is i e)
+  where
+    low : vectorByte w < 0x80 → i < 0x100 → ⊥
+    low a b = omega arith
+
+    high : vectorByte w < 0x80 → 0x280 ≤ i → ⊥
+    high a b = omega arith
+
+pub same-set : (p q : List ℕ) (i x : ℕ) → Same p q → apart i ≡ true → x < 256 → Same p (setByte q i x)
+same-set p q i x s e hx = record {
+  isPage = page-set q i x (s .isPage) hx;
+  request = λ w h. isSet-other q virr i x w (apart-virr i w e h) ∙ s .request w h;
+  service = λ w h. isSet-other q visr i x w (apart-visr i w e h) ∙ s .service w h;
+}
+
+-- apart from both registers and from VPPR
+abbrev pub free : ℕ → Bool
+free i = not (eqb i 0x0a0) && apart i
+
+first : (a b : Bool) → (a && b) ≡ true → a ≡ true
+first true b e = refl
+first false b e = e
+
+second : (a b : Bool) → (a && b) ≡ true → b ≡ true
+second true b e = e
+second false b e = absurd (true≢false (sym e))
+
+other : (i : ℕ) → not (eqb i 0x0a0) ≡ true → 0x0a0 ≡ i → ⊥
+other i e q = true≢false (sym e ∙ ap (λ x. not (eqb x 0x0a0)) (sym q))
+
+pub kept-set : (p q : List ℕ) (i x : ℕ) → Kept p q → free i ≡ true → x < 256 → Kept p (setByte q i x)
+kept-set p q i x k e hx = record {
+  same = same-set p q i x (k .same) (second (not (eqb i 0x0a0)) (apart i) e) hx;
+  vppr = getD-set-other q i vppr x 0 (other i (first (not (eqb i 0x0a0)) (apart i) e)) ∙ k .vppr;
+}
+
+byte-of : (x : ℕ) → x % 0x100 < 256
+byte-of x = omega arith
+
+pub kept-half : (p q : List ℕ) (i x : ℕ) → Kept p q → free i ≡ true → free (i + 1) ≡ true → Kept p (setHalf q i x)
+unfolding setHalf
+kept-half p q i x k e₀ e₁ = kept-set p _ (i + 1) _ (kept-set p q i _ k e₀ (byte-of x)) e₁ (byte-of (x / 0x100))
+
+pub kept-word : (p q : List ℕ) (i x : ℕ) → Kept p q → free i ≡ true → free (i + 1) ≡ true → free (i + 2) ≡ true → free (i + 3) ≡ true → Kept p (setWord q i x)
+unfolding setWord
+kept-word p q i x k e₀ e₁ e₂ e₃ =
+    kept-set p _ (i + 3) _
+    (kept-set p _ (i + 2) _ (kept-set p _ (i + 1) _ (kept-set p q i _ k e₀ (byte-of x)) e₁ (byte-of (x / 0x100))) e₂ (byte-of (x / 0x1_0000)))
+    e₃ (byte-of (x / 0x100_0000))
+
+-- a word stored at VPPR keeps the bits, and VPPR is its low byte
+pub same-vppr : (p q : List ℕ) (x : ℕ) → Same p q → Same p (setWord q vppr x)
+unfolding setWord
+same-vppr p q x s =
+    same-set p _ (vppr + 3) _
+    (same-set p _ (vppr + 2) _ (same-set p _ (vppr + 1) _ (same-set p q vppr _ s refl (byte-of x)) refl (byte-of (x / 0x100))) refl (byte-of (x / 0x1_0000)))
+    refl (byte-of (x / 0x100_0000))
+
+pub vppr-stored : (q : List ℕ) (x : ℕ) → IsPage q → byteAt (setWord q vppr x) vppr ≡ x % 0x100
+unfolding setWord
+vppr-stored q x g =
+    getD-set-other (set (set (set q 0x0a0 (x % 0x100)) 0x0a1 (x / 0x100 % 0x100)) 0x0a2 (x / 0x1_0000 % 0x100)) 0x0a3 0x0a0 (x / 0x100_0000 % 0x100) 0 (ne 0x0a3 (lib.Dec.lit< tt))
+    ∙ getD-set-other (set (set q 0x0a0 (x % 0x100)) 0x0a1 (x / 0x100 % 0x100)) 0x0a2 0x0a0 (x / 0x1_0000 % 0x100) 0 (ne 0x0a2 (lib.Dec.lit< tt))
+    ∙ getD-set-other (set q 0x0a0 (x % 0x100)) 0x0a1 0x0a0 (x / 0x100 % 0x100) 0 (ne 0x0a1 (lib.Dec.lit< tt))
+    ∙ getD-set-same q 0x0a0 (x % 0x100) 0 (inside (g .size))
+  where
+    ne : (n : ℕ) → 0x0a0 < n → 0x0a0 ≡ n → ⊥
+    ne n l e = omega arith
+
+    inside : length q ≡ 4096 → 0x0a0 < length q
+    inside e = omega arith

@@ -1,0 +1,9 @@
+pub mod Invariant
+pub mod Kept
+pub mod Ladder
+pub mod Laws
+pub mod Leaves
+pub mod Put
+pub mod Stores
+pub mod Theorems
+pub mod Sharp

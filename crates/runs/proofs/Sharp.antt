@@ -1,0 +1,37 @@
+-- Condition 3 is sharp: fifteen are reached, and its premise is needed. Both are runs that antt computes. Assumes nothing.
+use Prim.Native.Nat.{ℕ}
+use mathlib.Core.Path.{_≡_, refl, sym, _∙_}
+use mathlib.Core.Bool.{Bool, true, false, true≢false}
+use mathlib.Core.List.{List, [], _∷_}
+use Rattle.rules.specs.Controls.{eoiExitWord}
+use Rattle.rules.specs.Events.{valueInBounds, eventInBounds, rootOnly, allowed}
+use Rattle.rules.specs.Entry.{failingCheck}
+use Rattle.rules.specs.Memory.{openOffset, memoryAccess, writeFollowing}
+use Rattle.rules.specs.Procedures.{ppr, larger}
+use Rattle.page.specs.Page.{wordAt, setWord, storeAt, isSet, putVector, highestBelow, highest}
+use Rattle.model.specs.Procedures.{pprVirtualization, evaluation, evaluatedQuiet, requestedPage, requestedRecord, selfIpiVirtualization}
+use Rattle.model.specs.Entry.{entered, entry, request}
+use Rattle.model.specs.Memory.{followBy, written, writeBy, memoryWrite}
+use Rattle.model.specs.Boundary.{deliveredPage, deliveredRecord, delivery, boundaryAt, boundary}
+use Rattle.model.specs.Step.{carriedOut, step}
+use Rattle.runs.specs.History.{start, after, AllOn, none, more}
+use Rattle.runs.specs.Condition3.{depth, Recognition, recognisedNow}
+use Rattle.runs.specs.Examples.{fifteenDeep, deliveryOff}
+
+-- every entry of the run has virtual-interrupt delivery on, and fifteen are then in service
+pub fifteen-allowed : AllOn fifteenDeep
+fifteen-allowed =
+    more refl
+    (more tt (more tt (more tt (more tt (more tt (more tt (more tt (more tt (more tt (more tt
+    (more tt (more tt (more tt (more tt (more tt (more tt (more tt (more tt (more tt (more tt
+    (more tt (more tt (more tt (more tt (more tt (more tt (more tt (more tt (more tt (more tt
+    none))))))))))))))))))))))))))))))
+
+pub fifteen-reached : depth (after start fifteenDeep) ≡ 15
+unfolding eoiExitWord valueInBounds eventInBounds rootOnly allowed failingCheck openOffset memoryAccess writeFollowing ppr larger wordAt setWord storeAt isSet putVector highestBelow highest pprVirtualization evaluation evaluatedQuiet requestedPage requestedRecord selfIpiVirtualization entered entry request followBy written writeBy memoryWrite deliveredPage deliveredRecord delivery boundaryAt boundary carriedOut step
+fifteen-reached = refl
+
+-- with delivery off at its entry a run ends in guest mode with RVI's class above VPPR's and nothing recognised
+pub premise-needed : Recognition (after start deliveryOff) → ⊥
+unfolding eoiExitWord valueInBounds eventInBounds rootOnly allowed failingCheck openOffset memoryAccess writeFollowing ppr larger wordAt setWord storeAt isSet putVector highestBelow highest pprVirtualization evaluation evaluatedQuiet requestedPage requestedRecord selfIpiVirtualization entered entry request followBy written writeBy memoryWrite deliveredPage deliveredRecord delivery boundaryAt boundary carriedOut step
+premise-needed r = true≢false (sym (r .recognised))
