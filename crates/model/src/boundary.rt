@@ -31,7 +31,7 @@ fn delivery(page: &mut [u8], record: Record) -> Outcome
     move_to_service(page, vector);
     let mut next = record;
     next.svi = vector;
-    next.rvi = highest_vector(page, VIRR as u32);
+    next.rvi = highest_vector(page, VIRR as u16);
     next.recognised = false;
     delivered(next, vector)
 }

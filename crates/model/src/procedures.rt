@@ -78,7 +78,7 @@ pub fn eoi_virtualization(page: &mut [u8], record: Record) -> Outcome
     let old = record.svi;
     put_vector(page, VISR, old, false);
     let mut next = record;
-    next.svi = highest_vector(page, VISR as u32);
+    next.svi = highest_vector(page, VISR as u16);
     eoi_end(page, next, old)
 }
 

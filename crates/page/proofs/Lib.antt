@@ -3,3 +3,4 @@ pub mod Part
 pub mod Registers
 pub mod Highest
 pub mod Top
+pub mod Words

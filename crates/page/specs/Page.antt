@@ -37,8 +37,11 @@ byteAt p at = getD p at 0
 unfoldable pub halfAt : List ℕ → ℕ → ℕ
 halfAt p at = byteAt p at + 0x100 * byteAt p (at + 1)
 
+abbrev pub wordOf : ℕ → ℕ → ℕ → ℕ → ℕ
+wordOf b₀ b₁ b₂ b₃ = b₀ + 0x100 * b₁ + 0x1_0000 * b₂ + 0x100_0000 * b₃
+
 unfoldable pub wordAt : List ℕ → ℕ → ℕ
-wordAt p at = byteAt p at + 0x100 * byteAt p (at + 1) + 0x1_0000 * byteAt p (at + 2) + 0x100_0000 * byteAt p (at + 3)
+wordAt p at = wordOf (byteAt p at) (byteAt p (at + 1)) (byteAt p (at + 2)) (byteAt p (at + 3))
 
 unfoldable pub longAt : List ℕ → ℕ → ℕ
 longAt p at = wordAt p at + 0x1_0000_0000 * wordAt p (at + 4)
@@ -104,6 +107,11 @@ highestBelow p base (suc v) = if isSet p base v then v else highestBelow p base 
 
 unfoldable pub highest : List ℕ → ℕ → ℕ
 highest p base = highestBelow p base 256
+
+-- the highest set bit of a word below bit n, counted from 1; 0 where none is set
+unfoldable pub highestBit : ℕ → ℕ → ℕ
+highestBit word zero = 0
+highestBit word (suc k) = if bit word k then suc k else highestBit word k
 
 -- a page: 4,096 bytes
 pub record IsPage (p : List ℕ) : Type 0 where

@@ -1,6 +1,8 @@
 // Bytes and little-endian words of a page.
 ghost use mathlib.Core.Path.{_≡_};
-ghost use Rattle.page.specs.Page.{byteAt, halfAt, wordAt, longAt, readAt, setByte, setHalf, setWord, setLong, storeAt};
+ghost use Prim.Native.Nat.{_+_, _≤_, _<_, _^_};
+ghost use lib.ListN.{length};
+ghost use Rattle.page.specs.Page.{wordOf, byteAt, halfAt, wordAt, longAt, readAt, setByte, setHalf, setWord, setLong, storeAt};
 
 pub fn byte_at(page: &[u8], at: usize) -> u8
     ensures { λ r. ⌜ r ≡ byteAt (now (page .entry)) at ⌝ }
@@ -20,15 +22,41 @@ fn half_at(page: &[u8], offset: u16) -> u16
     low + 0x100 * high
 }
 
+fn word_of(b0: u8, b1: u8, b2: u8, b3: u8) -> u32
+    ensures { λ r. ⌜ r ≡ wordOf b0 b1 b2 b3 ⌝ }
+{
+    b0 as u32 + 0x100 * (b1 as u32) + 0x1_0000 * (b2 as u32) + 0x100_0000 * (b3 as u32)
+}
+
+// Four bytes that the slice has.
+fn whole_word(page: &[u8], at: usize) -> u32
+    requires { ⌜ at + 4 ≤ length (now page) ⌝ }
+    ensures { λ r. ⌜ r ≡ wordAt (now (page .entry)) at ⌝ }
+{
+    word_of(page[at], page[at + 1], page[at + 2], page[at + 3])
+}
+
+// Four bytes some of which may lie past the end.
+fn part_word(page: &[u8], at: u64) -> u32
+    requires { ⌜ at < 2 ^ 33 ⌝ }
+    ensures { λ r. ⌜ r ≡ wordAt (now (page .entry)) at ⌝ }
+{
+    let from = at as usize;
+    let b0 = byte_at(page, from);
+    let b1 = byte_at(page, from + 1);
+    let b2 = byte_at(page, from + 2);
+    let b3 = byte_at(page, from + 3);
+    word_of(b0, b1, b2, b3)
+}
+
 pub fn word_at(page: &[u8], offset: u32) -> u32
     ensures { λ r. ⌜ r ≡ wordAt (now (page .entry)) offset ⌝ }
 {
     let at = offset as usize;
-    let b0 = byte_at(page, at) as u32;
-    let b1 = byte_at(page, at + 1) as u32;
-    let b2 = byte_at(page, at + 2) as u32;
-    let b3 = byte_at(page, at + 3) as u32;
-    b0 + 0x100 * b1 + 0x1_0000 * b2 + 0x100_0000 * b3
+    if at + 4 <= page.len() {
+        return whole_word(page, at);
+    }
+    part_word(page, offset as u64)
 }
 
 pub fn long_at(page: &[u8], offset: u16) -> u64
@@ -72,14 +100,38 @@ fn set_half(page: &mut [u8], offset: u16, value: u16)
     set_byte(page, at + 1, (value / 0x100 % 0x100) as u8);
 }
 
+// Four bytes that the slice has.
+fn set_whole_word(page: &mut [u8], at: usize, value: u32)
+    requires { ⌜ at + 4 ≤ length (now page) ⌝ }
+    ensures { λ _. ⌜ now (page .exit) ≡ setWord (now (page .entry)) at value ⌝ }
+{
+    page[at] = (value % 0x100) as u8;
+    page[at + 1] = (value / 0x100 % 0x100) as u8;
+    page[at + 2] = (value / 0x1_0000 % 0x100) as u8;
+    page[at + 3] = (value / 0x100_0000 % 0x100) as u8;
+}
+
+// Four bytes some of which may lie past the end.
+fn set_part_word(page: &mut [u8], at: u64, value: u32)
+    requires { ⌜ at < 2 ^ 33 ⌝ }
+    ensures { λ _. ⌜ now (page .exit) ≡ setWord (now (page .entry)) at value ⌝ }
+{
+    let from = at as usize;
+    set_byte(page, from, (value % 0x100) as u8);
+    set_byte(page, from + 1, (value / 0x100 % 0x100) as u8);
+    set_byte(page, from + 2, (value / 0x1_0000 % 0x100) as u8);
+    set_byte(page, from + 3, (value / 0x100_0000 % 0x100) as u8);
+}
+
 pub fn set_word(page: &mut [u8], offset: u32, value: u32)
     ensures { λ _. ⌜ now (page .exit) ≡ setWord (now (page .entry)) offset value ⌝ }
 {
     let at = offset as usize;
-    set_byte(page, at, (value % 0x100) as u8);
-    set_byte(page, at + 1, (value / 0x100 % 0x100) as u8);
-    set_byte(page, at + 2, (value / 0x1_0000 % 0x100) as u8);
-    set_byte(page, at + 3, (value / 0x100_0000 % 0x100) as u8);
+    if at + 4 <= page.len() {
+        set_whole_word(page, at, value);
+        return;
+    }
+    set_part_word(page, offset as u64, value);
 }
 
 pub fn set_long(page: &mut [u8], offset: u16, value: u64)

@@ -1,8 +1,8 @@
 // The 256-bit registers of a page.
 ghost use mathlib.Core.Path.{_≡_};
 ghost use Prim.Native.Nat.{_%_};
-ghost use Rattle.page.specs.Page.{vectorByte, putBit, isSet, putVector, highest};
-use crate::bytes::byte_at;
+ghost use Rattle.page.specs.Page.{vectorByte, putBit, putVector, highestBit, highest};
+use crate::bytes::word_at;
 
 fn vector_byte(vector: u8) -> usize
     ensures { λ r. ⌜ r ≡ vectorByte vector ⌝ }
@@ -41,25 +41,31 @@ pub fn put_vector(page: &mut [u8], base: usize, vector: u8, on: bool)
     }
 }
 
-// The vector's bit is set in the page's register at the base.
-fn is_set(page: &[u8], base: u32, vector: u8) -> bool
-    ensures { λ r. ⌜ r ≡ isSet (now (page .entry)) base vector ⌝ }
+// The highest set bit of a word, counted from 1, found bit by bit from the top; 0 where none is set.
+fn highest_bit(word: u32) -> u32
+    ensures { λ r. ⌜ r ≡ highestBit word 32 ⌝ }
 {
-    let byte = byte_at(page, base as usize + vector_byte(vector));
-    (byte >> (vector % 8)) % 2 == 1
-}
-
-// The highest set vector of the page's register at the base, 0 where it is empty.
-pub fn highest_vector(page: &[u8], base: u32) -> u8
-    ensures { λ r. ⌜ r ≡ highest (now (page .entry)) base ⌝ }
-{
-    let mut n: u16 = 256;
+    let mut n: u32 = 32;
     while 0 < n {
-        let v = ((n - 1) % 256) as u8;
-        if is_set(page, base, v) {
-            return v;
+        if (word >> (n - 1)) % 2 == 1 {
+            return n;
         }
         n = n - 1;
+    }
+    0
+}
+
+// The highest set vector of the page's register at the base, 0 where it is empty: its eight words from the top.
+pub fn highest_vector(page: &[u8], base: u16) -> u8
+    ensures { λ r. ⌜ r ≡ highest (now (page .entry)) base ⌝ }
+{
+    let mut left: u32 = 8;
+    while 0 < left {
+        let found = highest_bit(word_at(page, base as u32 + 16 * (left - 1)));
+        if 0 < found {
+            return ((32 * (left - 1) + found - 1) % 256) as u8;
+        }
+        left = left - 1;
     }
     0
 }

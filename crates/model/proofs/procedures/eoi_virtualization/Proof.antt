@@ -1,7 +1,5 @@
 -- `model::procedures::eoi_virtualization` meets its contract: code and definition take the same cases. Assumes nothing.
-use Rattle.model.specs.Procedures.{eoiVirtualization}
-use Rattle.model.specs.Procedures.{retiredPage}
-use Rattle.model.specs.Procedures.{retiredRecord}
+use Rattle.model.specs.Procedures.{eoiVirtualization, retiredPage, retiredRecord}
 use borrow.Author.Needs.{needs}
 use Rattle.model.proofs.procedures.eoi_virtualization.Statement.{statement}
 use Rattle.model.proofs.procedures.eoi_virtualization.Tie as tie

@@ -4,10 +4,9 @@ use native.Mathlib.Nat.{zero-add}
 use native.Mathlib.Omega.{arith}
 use mathlib.Core.Path.{sym}
 use lib.Seq.{set-out}
-use Rattle.page.specs.Page.{vectorByte, putBit}
+use Rattle.page.specs.Page.{vectorByte, putBit, putVector}
 use Rattle.page.proofs.Part.{changed-part}
 use borrow.Author.Tests.{le-leb, lt-leb}
-use Rattle.page.specs.Page.{putVector}
 use borrow.Author.Needs.{needs}
 use Rattle.page.proofs.vectors.put_vector.Statement.{statement}
 use Rattle.page.proofs.vectors.put_vector.Tie as tie

@@ -1,0 +1,14 @@
+-- The bytes that gg_fresh leaves are read as the fresh record. Assumes nothing.
+use mathlib.Core.Path.{_≡_, refl}
+use mathlib.Core.Bool.{true}
+use lib.ListN.{replicate}
+use Rattle.rules.specs.Controls.{fresh}
+use Rattle.page.specs.Page.{wordAt, longAt}
+use Rattle.capi.specs.Records.{recordReadable, recordOf, controlsOf}
+
+pub fresh-readable : recordReadable (replicate 48 0) ≡ true
+fresh-readable = refl
+
+pub fresh-read : recordOf (replicate 48 0) ≡ fresh
+unfolding recordOf controlsOf wordAt longAt
+fresh-read = refl

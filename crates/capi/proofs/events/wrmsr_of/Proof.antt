@@ -1,0 +1,17 @@
+use Rattle.capi.specs.Events.{wrmsrOf}
+use borrow.Author.Needs.{needs}
+use Rattle.capi.proofs.events.wrmsr_of.Statement.{statement}
+use Rattle.capi.proofs.events.wrmsr_of.Tie as tie
+
+word-at-requires : tie.Need-word-at-requires
+word-at-requires c κs = tt
+
+long-at-requires : tie.Need-long-at-requires
+long-at-requires c κs = tt
+
+returns : tie.Need-returns
+unfolding wrmsrOf
+returns c = simp (← (c .before .word-at .ensures), ← (c .long-at .ensures))
+
+pub wrmsr-of-spec : {M : Type 1} → statement M
+wrmsr-of-spec = tie.close (tie.spec word-at-requires long-at-requires returns)

@@ -1,0 +1,25 @@
+use mathlib.Core.Path.{refl}
+use borrow.Author.Tests.{eq-eqb, ne-eqb}
+use Rattle.capi.specs.Calls.{ggFresh}
+use borrow.Author.Needs.{needs}
+use Rattle.capi.proofs.gg_fresh.Statement.{statement}
+use Rattle.capi.proofs.gg_fresh.Tie as tie
+
+returns : tie.Need-returns
+unfolding ggFresh
+returns c = simp (ne-eqb _ _ (c .if1 .taken)) (search needs)
+
+clear-requires : tie.Need-clear-requires
+clear-requires c κs = tt
+
+same-length : tie.Need-same-length
+same-length c = search needs
+
+returns-2 : tie.Need-returns-2
+unfolding ggFresh
+returns-2 c =
+    simp (eq-eqb _ _ (c .before .before .before .before .if1 .left))
+    (record { answer = refl; recordBytes = rw (c .before .before .before .before .if1 .left) at (c .before .before .clear .ensures) })
+
+pub gg-fresh-spec : {M : Type 1} → statement M
+gg-fresh-spec = tie.close (tie.spec returns clear-requires same-length returns-2)

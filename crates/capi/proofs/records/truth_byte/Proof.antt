@@ -1,0 +1,14 @@
+use Rattle.capi.specs.Records.{truthByte}
+use Rattle.capi.proofs.records.truth_byte.Statement.{statement}
+use Rattle.capi.proofs.records.truth_byte.Tie as tie
+
+returns : tie.Need-returns
+unfolding truthByte
+returns c = simp (c .if1 .taken)
+
+returns-2 : tie.Need-returns-2
+unfolding truthByte
+returns-2 c = simp (c .if1 .left)
+
+pub truth-byte-spec : {M : Type 1} → statement M
+truth-byte-spec = tie.close (tie.spec returns returns-2)

@@ -1,0 +1,66 @@
+-- What the two exported functions reply, and what they leave in the lent bytes.
+use Prim.Native.Nat.{ℕ}
+use mathlib.Core.Path.{_≡_}
+use mathlib.Core.Bool.{not, _&&_}
+use mathlib.Core.List.{List}
+use lib.Dec.{eqb}
+use lib.ListN.{length, replicate}
+use Rattle.rules.specs.Logic.{if_then_else_}
+use Rattle.model.specs.After.{After}
+use Rattle.model.specs.Step.{step}
+use Rattle.capi.specs.Records.{recordReadable, recordOf, kept}
+use Rattle.capi.specs.Events.{eventReadable, eventOf}
+
+pub record Reply : Type 0 where
+  pub answer : ℕ
+  pub first : ℕ
+  pub second : ℕ
+  pub recordBytes : List ℕ
+  pub page : List ℕ
+
+-- refused: page and record bytes unchanged
+abbrev pub refused : ℕ → List ℕ → List ℕ → Reply
+refused number p b = record { answer = 0; first = number; second = 0; recordBytes = b; page = p }
+
+-- the model's answer and page, with the record's bytes where it did not refuse
+abbrev pub replied : List ℕ → After → Reply
+replied b a =
+    record {
+      answer = a .answer .answer;
+      first = a .answer .first;
+      second = a .answer .second;
+      recordBytes = kept b (a .answer .answer) (a .state);
+      page = a .page;
+    }
+
+-- Refusal 1: the page isn't 4,096 bytes. 2: record or event aren't 48 bytes each, or cannot be read. The model's refusals follow.
+unfoldable pub ggStep : List ℕ → List ℕ → List ℕ → Reply
+ggStep p b e =
+    if not (eqb (length p) 4096) then refused 1 p b
+    else if not (eqb (length b) 48) then refused 2 p b
+    else if not (eqb (length e) 48) then refused 2 p b
+    else if not (recordReadable b && eventReadable e) then refused 2 p b
+    else replied b (step p (recordOf b) (eventOf e))
+
+-- The claim of gg_step: the answer, its two values, the record's bytes and the page are the definition's.
+pub record Replies (a : Reply) (n f s : ℕ) (b p : List ℕ) : Type 0 where
+  pub answer : n ≡ a .answer
+  pub first : f ≡ a .first
+  pub second : s ≡ a .second
+  pub recordBytes : b ≡ a .recordBytes
+  pub page : p ≡ a .page
+
+pub record FreshReply : Type 0 where
+  pub answer : ℕ
+  pub recordBytes : List ℕ
+
+-- 48 bytes all become 0, quiet; bytes of another length are refused and stay
+unfoldable pub ggFresh : List ℕ → FreshReply
+ggFresh b =
+    if not (eqb (length b) 48) then record { answer = 0; recordBytes = b }
+    else record { answer = 6; recordBytes = replicate 48 0 }
+
+-- The claim of gg_fresh.
+pub record FreshReplies (a : FreshReply) (n : ℕ) (b : List ℕ) : Type 0 where
+  pub answer : n ≡ a .answer
+  pub recordBytes : b ≡ a .recordBytes

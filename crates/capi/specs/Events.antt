@@ -1,0 +1,91 @@
+-- One event as bytes: exactly 48, little-endian. A field that the kind does not name is ignored.
+use Prim.Native.Nat.{ℕ, _%_}
+use mathlib.Core.Bool.{Bool, not, _&&_, _||_}
+use mathlib.Core.List.{List}
+use lib.Dec.{eqb, ltb}
+use Rattle.rules.specs.Logic.{if_then_else_, bit}
+use Rattle.rules.specs.declared.event.Event.{Event}
+use Rattle.rules.specs.declared.event.Event.the-variants.{Entry, Request, MemoryRead, MemoryWrite, ToCr8, FromCr8, Rdmsr, Wrmsr, Boundary}
+use Rattle.page.specs.Page.{byteAt, wordAt, longAt}
+use Rattle.capi.specs.Records.{controlsOf}
+
+-- kind u8 at 0, size u8 at 1, flags u8 at 2, detail u8 at 3, number u32 at 4, value u64 at 8
+abbrev pub kindOf : List ℕ → ℕ
+kindOf e = byteAt e 0
+
+abbrev pub sizeOf : List ℕ → ℕ
+sizeOf e = byteAt e 1
+
+abbrev pub flagsOf : List ℕ → ℕ
+flagsOf e = byteAt e 2
+
+abbrev pub detailOf : List ℕ → ℕ
+detailOf e = byteAt e 3
+
+abbrev pub numberOf : List ℕ → ℕ
+numberOf e = wordAt e 4
+
+abbrev pub valueOf : List ℕ → ℕ
+valueOf e = longAt e 8
+
+-- 2 memory read, 3 memory write
+abbrev pub isMemory : ℕ → Bool
+isMemory kind = eqb kind 2 || eqb kind 3
+
+-- 1 to 9
+abbrev pub kindReadable : ℕ → Bool
+kindReadable kind = ltb 0 kind && ltb kind 10
+
+-- no bit that the kind does not name: two bits of a memory access, three of a boundary
+abbrev pub flagsReadable : ℕ → ℕ → Bool
+flagsReadable kind flags = (not (isMemory kind) || ltb flags 4) && (not (eqb kind 8) || ltb flags 8)
+
+-- a memory offset and a requested vector fit 16 bits
+abbrev pub numberReadable : ℕ → ℕ → Bool
+numberReadable kind number = not (isMemory kind || eqb kind 9) || ltb number 0x1_0000
+
+-- a CR8 value fits 8 bits
+abbrev pub valueReadable : ℕ → ℕ → Bool
+valueReadable kind value = not (eqb kind 4) || ltb value 0x100
+
+-- every field is such that the model's event can hold it
+unfoldable pub eventReadable : List ℕ → Bool
+eventReadable e =
+    kindReadable (kindOf e) && flagsReadable (kindOf e) (flagsOf e) &&
+    numberReadable (kindOf e) (numberOf e) && valueReadable (kindOf e) (valueOf e)
+
+-- memory: number is the offset; flags bit 0 fetch, bit 1 already virtualised
+unfoldable pub memoryReadOf : List ℕ → Event
+memoryReadOf e = MemoryRead (numberOf e % 0x1_0000) (sizeOf e) (bit (flagsOf e) 0) (bit (flagsOf e) 1)
+
+unfoldable pub memoryWriteOf : List ℕ → Event
+memoryWriteOf e = MemoryWrite (numberOf e % 0x1_0000) (sizeOf e) (bit (flagsOf e) 0) (bit (flagsOf e) 1) (valueOf e)
+
+-- CR8: detail is the register
+unfoldable pub toCr8Of : List ℕ → Event
+toCr8Of e = ToCr8 (valueOf e % 0x100) (detailOf e)
+
+-- MSR: number is the index
+unfoldable pub wrmsrOf : List ℕ → Event
+wrmsrOf e = Wrmsr (numberOf e) (valueOf e)
+
+-- boundary: flags bit 0 IF, bit 1 STI, bit 2 MOV SS; detail is the activity
+unfoldable pub boundaryOf : List ℕ → Event
+boundaryOf e = Boundary (bit (flagsOf e) 0) (bit (flagsOf e) 1) (bit (flagsOf e) 2) (detailOf e)
+
+-- request: number is the vector
+unfoldable pub requestOf : List ℕ → Event
+requestOf e = Request (numberOf e % 0x1_0000)
+
+-- 1 entry, 2 memory read, 3 memory write, 4 to CR8, 5 from CR8, 6 RDMSR, 7 WRMSR, 8 boundary, 9 request
+unfoldable pub eventOf : List ℕ → Event
+eventOf e =
+    if eqb (kindOf e) 1 then Entry (controlsOf e)
+    else if eqb (kindOf e) 2 then memoryReadOf e
+    else if eqb (kindOf e) 3 then memoryWriteOf e
+    else if eqb (kindOf e) 4 then toCr8Of e
+    else if eqb (kindOf e) 5 then FromCr8 (detailOf e)
+    else if eqb (kindOf e) 6 then Rdmsr (numberOf e)
+    else if eqb (kindOf e) 7 then wrmsrOf e
+    else if eqb (kindOf e) 8 then boundaryOf e
+    else requestOf e

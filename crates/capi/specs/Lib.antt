@@ -1,0 +1,4 @@
+pub mod Records
+pub mod Events
+pub mod Told
+pub mod Calls

@@ -1,0 +1,44 @@
+// The controls, at the same places in the record's bytes and in an entry's.
+ghost use mathlib.Core.Path.{_≡_};
+ghost use Rattle.capi.specs.Records.{controlsOf, controlsBytes};
+use page::bytes::long_at;
+use page::bytes::set_long;
+use page::bytes::set_word;
+use page::bytes::word_at;
+use rules::controls::Controls;
+
+const THRESHOLD: u32 = 4;
+
+const FLAGS: u16 = 8;
+
+const EOI_EXIT_0: u16 = 16;
+
+const EOI_EXIT_1: u16 = 24;
+
+const EOI_EXIT_2: u16 = 32;
+
+const EOI_EXIT_3: u16 = 40;
+
+pub fn controls_of(bytes: &[u8]) -> Controls
+    ensures { λ r. ⌜ r ≡ controlsOf (now (bytes .entry)) ⌝ }
+{
+    Controls {
+        flags: long_at(bytes, FLAGS),
+        threshold: word_at(bytes, THRESHOLD),
+        eoi_exit_0: long_at(bytes, EOI_EXIT_0),
+        eoi_exit_1: long_at(bytes, EOI_EXIT_1),
+        eoi_exit_2: long_at(bytes, EOI_EXIT_2),
+        eoi_exit_3: long_at(bytes, EOI_EXIT_3),
+    }
+}
+
+pub fn controls_bytes(bytes: &mut [u8], controls: Controls)
+    ensures { λ _. ⌜ now (bytes .exit) ≡ controlsBytes (now (bytes .entry)) controls ⌝ }
+{
+    set_word(bytes, THRESHOLD, controls.threshold);
+    set_long(bytes, FLAGS, controls.flags);
+    set_long(bytes, EOI_EXIT_0, controls.eoi_exit_0);
+    set_long(bytes, EOI_EXIT_1, controls.eoi_exit_1);
+    set_long(bytes, EOI_EXIT_2, controls.eoi_exit_2);
+    set_long(bytes, EOI_EXIT_3, controls.eoi_exit_3);
+}

@@ -1,0 +1,76 @@
+// The processor record as 48 bytes.
+ghost use mathlib.Core.Path.{_≡_};
+ghost use lib.ListN.{length, replicate};
+ghost use Rattle.capi.specs.Records.{recordReadable, recordOf, truthByte, recordBytes, kept};
+use crate::controls::controls_bytes;
+use crate::controls::controls_of;
+use page::bytes::byte_at;
+use page::bytes::set_byte;
+use rules::controls::Record;
+
+const MODE: usize = 0;
+
+const RVI: usize = 1;
+
+const SVI: usize = 2;
+
+const RECOGNISED: usize = 3;
+
+// Mode and recognised are 0 or 1.
+pub fn record_readable(bytes: &[u8]) -> bool
+    ensures { λ r. ⌜ r ≡ recordReadable (now (bytes .entry)) ⌝ }
+{
+    (byte_at(bytes, MODE) < 2) & (byte_at(bytes, RECOGNISED) < 2)
+}
+
+pub fn record_of(bytes: &[u8]) -> Record
+    ensures { λ r. ⌜ r ≡ recordOf (now (bytes .entry)) ⌝ }
+{
+    Record {
+        guest: byte_at(bytes, MODE) == 1,
+        rvi: byte_at(bytes, RVI),
+        svi: byte_at(bytes, SVI),
+        recognised: byte_at(bytes, RECOGNISED) == 1,
+        controls: controls_of(bytes),
+    }
+}
+
+fn truth_byte(on: bool) -> u8
+    ensures { λ r. ⌜ r ≡ truthByte on ⌝ }
+{
+    if on {
+        return 1;
+    }
+    0
+}
+
+// The bytes take the record.
+fn record_bytes(bytes: &mut [u8], state: Record)
+    ensures { λ _. ⌜ now (bytes .exit) ≡ recordBytes (now (bytes .entry)) state ⌝ }
+{
+    let controls = state.controls;
+    set_byte(bytes, MODE, truth_byte(state.guest));
+    set_byte(bytes, RVI, state.rvi);
+    set_byte(bytes, SVI, state.svi);
+    set_byte(bytes, RECOGNISED, truth_byte(state.recognised));
+    controls_bytes(bytes, controls);
+}
+
+// A refusal, answer 0, leaves the record's bytes; any other answer stores the record.
+pub fn keep(bytes: &mut [u8], answer: u32, state: Record)
+    ensures { λ _. ⌜ now (bytes .exit) ≡ kept (now (bytes .entry)) answer state ⌝ }
+{
+    if answer == 0 {
+        return;
+    }
+    record_bytes(bytes, state);
+}
+
+// Every byte becomes 0.
+pub fn clear(bytes: &mut [u8])
+    ensures { λ _. ⌜ now (bytes .exit) ≡ replicate (length (now (bytes .entry))) 0 ⌝ }
+{
+    for i in 0..bytes.len() {
+        bytes[i] = 0;
+    }
+}

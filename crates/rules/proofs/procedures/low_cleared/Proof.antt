@@ -1,0 +1,14 @@
+-- `rules::procedures::low_cleared` meets its contract: code and definition are one expression. Assumes nothing.
+use mathlib.Core.Path.{refl}
+use native.Mathlib.Omega.{arith}
+use Rattle.rules.proofs.procedures.low_cleared.Statement.{statement}
+use Rattle.rules.proofs.procedures.low_cleared.Tie as tie
+
+mul-result : tie.Need-mul-result
+mul-result c = omega arith
+
+returns : tie.Need-returns
+returns c = refl
+
+pub low-cleared-spec : {M : Type 1} → statement M
+low-cleared-spec = tie.close (tie.spec mul-result returns)

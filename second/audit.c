@@ -1,0 +1,66 @@
+/* Condition 3: what holds after any sequence of events that always enters with VID. */
+#include "audit.h"
+
+enum { DEEPEST = 15 };
+
+static uint8_t highest_vector(const struct trial *t, uint32_t base)
+{
+    uint8_t highest = 0;
+    for (unsigned vector = 0; vector < 256; vector++)
+        if (gg_vector_is_set(trial_page_of(t), base, (uint8_t)vector))
+            highest = (uint8_t)vector;
+    return highest;
+}
+
+static bool retires(const struct gg_event *event, const struct gg_answer *answer)
+{
+    bool place = (event->kind == GG_MEMORY_WRITE && event->number == GG_VEOI) ||
+                 (event->kind == GG_WRMSR && event->number == 0x80B);
+    bool exits = answer->number == GG_VM_EXIT && answer->first == GG_EXIT_VIRTUALIZED_EOI;
+    return place && (answer->number == GG_QUIET || exits);
+}
+
+static const char *follow(struct audit *audit, const struct gg_event *event, const struct gg_answer *answer)
+{
+    if (retires(event, answer) && audit->depth > 0)
+        audit->depth--;
+    if (answer->number != GG_DELIVERED)
+        return NULL;
+    uint8_t vector = (uint8_t)answer->first;
+    if (audit->depth > 0 && audit->stack[audit->depth - 1] / 16 >= vector / 16)
+        return "the classes in service rise strictly in order of delivery";
+    if (audit->depth == DEEPEST)
+        return "never more than 15 vectors are in service";
+    audit->stack[audit->depth++] = vector;
+    return NULL;
+}
+
+static const char *service_bits(const struct audit *audit, const struct trial *t)
+{
+    bool same = trial_count(t, GG_VISR) == audit->depth;
+    for (unsigned i = 0; i < audit->depth; i++)
+        same = same && gg_vector_is_set(trial_page_of(t), GG_VISR, audit->stack[i]);
+    return same ? NULL : "the service bits are the vectors delivered and not yet retired";
+}
+
+static const char *record_holds(const struct trial *t)
+{
+    struct gg_record record = trial_record(t);
+    if (record.rvi != highest_vector(t, GG_VIRR))
+        return "RVI is the highest request bit";
+    if (record.svi != highest_vector(t, GG_VISR))
+        return "SVI is the highest service bit";
+    unsigned vppr_class = gg_word(trial_page_of(t), GG_VPPR) >> 4 & 15;
+    bool due = !(record.flags & GG_INTERRUPT_WINDOW_EXITING) && record.rvi / 16u > vppr_class;
+    if (record.mode == GG_GUEST && record.recognised != due)
+        return "an interrupt is recognised exactly when RVI's class exceeds VPPR's";
+    return NULL;
+}
+
+const char *audit_step(struct audit *audit, const struct gg_event *event, const struct side *side)
+{
+    const char *broken = follow(audit, event, &side->answer);
+    if (!broken)
+        broken = service_bits(audit, &side->trial);
+    return broken ? broken : record_holds(&side->trial);
+}

@@ -1,0 +1,238 @@
+/* Times the model and the second program on the same workloads in one run. */
+#include "counter.h"
+#include "edge.h"
+#include "workload.h"
+
+#include <inttypes.h>
+#include <stdio.h>
+#include <stdlib.h>
+#include <string.h>
+#include <time.h>
+
+enum { RUNNERS = 4, TRIES = 5 };
+
+/* The same rules with the register's words searched instead of its bits. */
+struct outcome oracle_step_words(struct cpu *cpu, uint8_t *page, size_t page_len,
+                                 const struct happening *event);
+
+/* A workload with room for its running state, in bytes and in the second program's fields. */
+struct bench {
+    struct workload work;
+    struct gg_record record;
+    uint8_t page[GG_PAGE_LENGTH];
+    struct cpu cpu;
+    struct happening happenings[MOST_EVENTS];
+    uint64_t sum; /* of every number answered */
+};
+
+struct figures {
+    double ns, instructions;
+};
+
+static bool counting;
+
+static void reset(struct bench *b)
+{
+    b->record = b->work.record;
+    memcpy(b->page, b->work.page, sizeof b->page);
+    b->cpu = edge_cpu((const uint8_t *)&b->record, sizeof b->record);
+    for (unsigned i = 0; i < b->work.count; i++)
+        b->happenings[i] = edge_happening((const uint8_t *)&b->work.events[i], sizeof b->work.events[i]);
+    b->sum = 0;
+}
+
+typedef uint32_t bytes_function(uint8_t *, size_t, uint8_t *, size_t, const uint8_t *, size_t, uint64_t *,
+                                uint64_t *);
+typedef struct outcome fields_function(struct cpu *, uint8_t *, size_t, const struct happening *);
+
+static void run_bytes(struct bench *b, uint64_t rounds, bytes_function *step)
+{
+    uint64_t first, second, sum = 0;
+    uint8_t *record = (uint8_t *)&b->record;
+    for (; rounds > 0; rounds--)
+        for (unsigned i = 0; i < b->work.count; i++) {
+            sum += step(b->page, sizeof b->page, record, sizeof b->record,
+                        (const uint8_t *)&b->work.events[i], sizeof b->work.events[i], &first, &second);
+            sum += first + second;
+            if (b->work.restores_mode)
+                b->record.mode = b->work.record.mode;
+        }
+    b->sum += sum;
+}
+
+static void run_fields(struct bench *b, uint64_t rounds, fields_function *step)
+{
+    uint64_t sum = 0;
+    for (; rounds > 0; rounds--)
+        for (unsigned i = 0; i < b->work.count; i++) {
+            struct outcome outcome = step(&b->cpu, b->page, sizeof b->page, &b->happenings[i]);
+            sum += outcome.answer + outcome.first + outcome.second;
+            if (b->work.restores_mode)
+                b->cpu.mode = b->work.record.mode;
+        }
+    b->sum += sum;
+}
+
+static const char *const runner_names[RUNNERS] = {"model", "bytes", "bits", "words"};
+
+static void run(struct bench *b, unsigned runner, uint64_t rounds)
+{
+    switch (runner) {
+    case 0:
+        run_bytes(b, rounds, gg_step);
+        break;
+    case 1:
+        run_bytes(b, rounds, second_step);
+        break;
+    case 2:
+        run_fields(b, rounds, oracle_step);
+        break;
+    default:
+        run_fields(b, rounds, oracle_step_words);
+    }
+}
+
+static double now_ns(void)
+{
+    struct timespec now;
+    timespec_get(&now, TIME_UTC);
+    return 1e9 * (double)now.tv_sec + (double)now.tv_nsec;
+}
+
+/* The number of rounds that take about this long. */
+static uint64_t rounds_for(struct bench *b, unsigned runner, double ns)
+{
+    uint64_t rounds = 1;
+    for (;; rounds *= 2) {
+        double start = now_ns();
+        run(b, runner, rounds);
+        if (now_ns() - start > ns / 2)
+            return rounds;
+    }
+}
+
+/* The best of a few tries, since other work on the machine only ever adds time. */
+static struct figures measure(struct bench *b, unsigned runner)
+{
+    reset(b);
+    uint64_t rounds = rounds_for(b, runner, 2e7);
+    double events = (double)rounds * b->work.count;
+    struct figures best = {1e18, 1e18};
+    for (int again = 0; again < TRIES; again++) {
+        uint64_t counted = counting ? counter_read() : 0;
+        double start = now_ns();
+        run(b, runner, rounds);
+        double ns = (now_ns() - start) / events;
+        double instructions = counting ? (double)(counter_read() - counted) / events : 0;
+        best.ns = ns < best.ns ? ns : best.ns;
+        best.instructions = instructions < best.instructions ? instructions : best.instructions;
+    }
+    return best;
+}
+
+/* Whether every runner answers alike, so that the figures compare equal work. */
+static bool agree(struct bench *b)
+{
+    uint64_t sums[RUNNERS];
+    for (unsigned runner = 0; runner < RUNNERS; runner++) {
+        reset(b);
+        run(b, runner, 3);
+        sums[runner] = b->sum;
+    }
+    return sums[0] == sums[1] && sums[0] == sums[2] && sums[0] == sums[3];
+}
+
+static void print_row(const char *name, const char *unit, const double *values)
+{
+    printf("%-13s %-13s", name, unit);
+    for (unsigned runner = 0; runner < RUNNERS; runner++)
+        printf("%10.1f", values[runner]);
+    for (unsigned runner = 1; runner < RUNNERS; runner++)
+        printf("%10.2f", values[0] / values[runner]);
+    printf("\n");
+}
+
+static int report(void)
+{
+    static struct bench b;
+    int status = 0;
+    printf("%-13s %-13s%10s%10s%10s%10s%10s%10s%10s\n", "per event", "unit", "model", "bytes", "bits", "words",
+           "/bytes", "/bits", "/words");
+    for (unsigned which = 0; which < WORKLOADS; which++) {
+        double ns[RUNNERS], instructions[RUNNERS];
+        workload_make(&b.work, which);
+        if (!agree(&b)) {
+            printf("%-13s the programs answer differently\n", b.work.name);
+            status = 1;
+            continue;
+        }
+        for (unsigned runner = 0; runner < RUNNERS; runner++) {
+            struct figures figures = measure(&b, runner);
+            ns[runner] = figures.ns;
+            instructions[runner] = figures.instructions;
+        }
+        print_row(b.work.name, "ns", ns);
+        if (counting)
+            print_row("", "instructions", instructions);
+    }
+    return status;
+}
+
+static int list(void)
+{
+    static struct workload w;
+    for (unsigned which = 0; which < WORKLOADS; which++) {
+        workload_make(&w, which);
+        printf("%-13s %2u %s\n", w.name, w.count, w.words);
+    }
+    return 0;
+}
+
+/* Runs one workload for a stated number of rounds and nothing else, for a counter outside. */
+static int only(const char *runner_name, const char *name, const char *rounds)
+{
+    static struct bench b;
+    for (unsigned which = 0; which < WORKLOADS; which++)
+        for (unsigned runner = 0; runner < RUNNERS; runner++) {
+            workload_make(&b.work, which);
+            if (strcmp(b.work.name, name) || strcmp(runner_names[runner], runner_name))
+                continue;
+            reset(&b);
+            run(&b, runner, strtoull(rounds, NULL, 10));
+            return b.sum == 0;
+        }
+    return 2;
+}
+
+static int help(FILE *to, int status)
+{
+    fputs("usage: bench                             times every workload and prints ratios\n"
+          "       bench --emulated                  the same, for a run in an emulator\n"
+          "       bench --list                      names the workloads, their events, what they do\n"
+          "       bench --only RUNNER NAME ROUNDS   runs one workload, for a counter outside\n\n"
+          "Runners: model  the proved model, through the static library\n"
+          "         bytes  the second program behind the same bytes, searching bit by bit\n"
+          "         bits   the second program on its own fields, searching bit by bit\n"
+          "         words  the second program on its own fields, searching word by word\n",
+          to);
+    return status;
+}
+
+int main(int count, char **words)
+{
+    if (count == 2 && strcmp(words[1], "--help") == 0)
+        return help(stdout, 0);
+    if (count == 2 && strcmp(words[1], "--list") == 0)
+        return list();
+    if (count == 5 && strcmp(words[1], "--only") == 0)
+        return only(words[2], words[3], words[4]);
+    bool emulated = count == 2 && strcmp(words[1], "--emulated") == 0;
+    if (count != 1 && !emulated)
+        return help(stderr, 2);
+    counting = !emulated && counter_open();
+    if (emulated)
+        printf("the programs run in an emulator: only the ratios mean something\n");
+    else if (!counting)
+        printf("instructions: not available here; second/count.sh counts them\n");
+    return report();
+}

@@ -1,0 +1,60 @@
+/* What is refused before any rule is tried. */
+#include "bounds.h"
+
+#include "faults.h"
+#include "terms.h"
+
+static bool fits(uint64_t value, unsigned size)
+{
+    return size == 8 || value >> 8 * size == 0 || FAULT(BOUNDS_VALUE);
+}
+
+static bool memory_in_bounds(const struct happening *e)
+{
+    bool size = e->size == 1 || e->size == 2 || e->size == 4 || e->size == 8;
+    if (e->number >= PAGE || !size || e->flags > (FETCH | ALREADY))
+        return false;
+    return e->kind == READ || (!(e->flags & FETCH) && fits(e->value, e->size));
+}
+
+/* Whether every field that the event's kind names lies in its bounds. */
+static bool event_in_bounds(const struct happening *e)
+{
+    switch (e->kind) {
+    case ENTRY:
+        return e->value >> CONTROLS == 0;
+    case READ:
+    case WRITE:
+        return memory_in_bounds(e);
+    case TO_CR8:
+        return (e->value <= 15 || FAULT(BOUNDS_CR8)) && e->detail <= 15;
+    case FROM_CR8:
+        return e->detail <= 15;
+    case RDMSR:
+    case WRMSR:
+        return true;
+    case BOUNDARY:
+        return e->flags <= 7 && e->detail <= (FAULT(BOUNDS_ACTIVITY) ? 4 : 3);
+    case REQUEST:
+        return e->number <= 255;
+    default:
+        return false;
+    }
+}
+
+static bool record_in_bounds(const struct cpu *cpu)
+{
+    return cpu->mode <= 1 && cpu->recognised <= 1 && cpu->controls >> CONTROLS == 0;
+}
+
+unsigned bounds_refusal(const struct cpu *cpu, size_t page_len, const struct happening *e)
+{
+    unsigned needed = e->kind == ENTRY || e->kind == REQUEST ? 0 : 1;
+    if (page_len != PAGE)
+        return 1;
+    if (FAULT(MODE_FIRST) && cpu->mode != needed)
+        return 3;
+    if (!record_in_bounds(cpu) || !event_in_bounds(e))
+        return 2;
+    return cpu->mode != needed ? 3 : 0;
+}

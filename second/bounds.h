@@ -1,0 +1,10 @@
+/* Refusals 1 to 3: lengths, bounds, modes. */
+#ifndef BOUNDS_H
+#define BOUNDS_H
+
+#include "oracle.h"
+
+/* The refusal due before any rule is tried, 0 for none. */
+unsigned bounds_refusal(const struct cpu *cpu, size_t page_len, const struct happening *e);
+
+#endif

@@ -1,0 +1,74 @@
+#!/bin/sh
+# Counts instructions per event: count.sh [--archive ARCHIVE] [--all | WORKLOAD...]
+# A workload runs at two lengths; the difference leaves out what a start costs.
+set -eu
+
+root=$(cd "$(dirname "$0")/.." && pwd)
+archive=$root/target/staticlib/libcapi.a
+if [ "${1:-}" = --archive ]; then
+    archive=$2
+    shift 2
+fi
+. "$root/second/toolchain.sh"
+. "$root/second/build.sh"
+build_bench "$archive"
+
+short=200
+long=1200
+plugin=$out/count_plugin.so
+
+# The plugin interface has a version; the first that the emulator takes is used.
+make_plugin() {
+    for version in 1 2 3 4 5 6; do
+        cc -std=c11 -O2 -shared -fPIC -DVERSION=$version "$root/second/count_plugin.c" -o "$plugin" || return 1
+        qemu-x86_64 -plugin "$plugin" "$out/bench" --list >/dev/null 2>&1 && return 0
+    done
+    return 1
+}
+
+with_callgrind() {
+    valgrind --tool=callgrind --callgrind-out-file=/dev/null "$out/bench" --only "$@" 2>&1 |
+        sed -n 's/^.*Collected *: *//p'
+}
+
+with_plugin() {
+    qemu-x86_64 -plugin "$plugin" "$out/bench" --only "$@" 2>&1 | sed -n 's/^instructions //p'
+}
+
+# The plugin belongs to the emulator, so the machine's own compiler builds it.
+[ "$(uname -m)" = x86_64 ] || have cc || install_packages gcc libc6-dev
+
+# Callgrind runs x86-64 code only on x86-64; elsewhere the emulator counts.
+if [ "$(uname -m)" = x86_64 ] && have valgrind; then
+    counter=with_callgrind
+elif have qemu-x86_64 cc && make_plugin; then
+    counter=with_plugin
+else
+    echo "instructions: not available; there is neither valgrind nor an emulator that takes plugins"
+    exit 0
+fi
+
+# per_event RUNNER WORKLOAD EVENTS
+per_event() {
+    low=$($counter "$1" "$2" $short)
+    high=$($counter "$1" "$2" $long)
+    echo "$low $high $(((long - short) * $3))" | awk '{ printf "%.1f", ($2 - $1) / $3 }'
+}
+
+chosen=${*:-mix nesting near-empty full}
+[ "$chosen" = --all ] && chosen=$($RUN "$out/bench" --list | awk '{ print $1 }')
+
+printf '%-13s%10s%10s%10s%10s%10s%10s%10s\n' instructions model bytes bits words /bytes /bits /words
+for workload in $chosen; do
+    events=$($RUN "$out/bench" --list | awk -v name="$workload" '$1 == name { print $2 }')
+    if [ -z "$events" ]; then
+        echo "count.sh: no workload $workload" >&2
+        exit 2
+    fi
+    figures=
+    for runner in model bytes bits words; do
+        figures="$figures $(per_event $runner "$workload" "$events")"
+    done
+    echo "$workload$figures" | awk '{
+        printf "%-13s%10s%10s%10s%10s%10.2f%10.2f%10.2f\n", $1, $2, $3, $4, $5, $2 / $3, $2 / $4, $2 / $5 }'
+done

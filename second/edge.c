@@ -1,0 +1,76 @@
+/* Turns bytes into the second program's own fields and back. */
+#include "edge.h"
+
+#include "registers.h"
+
+#include <string.h>
+
+enum { LENGTH = 48, AT_WORD = 4, AT_LONG = 8, AT_EXITS = 16, EXITS = 32 };
+
+static uint64_t long_at(const uint8_t *from)
+{
+    return (uint64_t)load_word(from) | (uint64_t)load_word(from + 4) << 32;
+}
+
+struct cpu edge_cpu(const uint8_t *record, size_t record_len)
+{
+    struct cpu cpu = {.mode = NO_MODE};
+    if (record_len != LENGTH)
+        return cpu;
+    cpu.mode = record[0];
+    cpu.rvi = record[1];
+    cpu.svi = record[2];
+    cpu.recognised = record[3];
+    cpu.threshold = load_word(record + AT_WORD);
+    cpu.controls = long_at(record + AT_LONG);
+    memcpy(cpu.eoi_exit, record + AT_EXITS, EXITS);
+    return cpu;
+}
+
+struct happening edge_happening(const uint8_t *event, size_t event_len)
+{
+    struct happening happening = {.kind = NO_KIND};
+    if (event_len != LENGTH)
+        return happening;
+    happening.kind = event[0];
+    happening.size = event[1];
+    happening.flags = event[2];
+    happening.detail = event[3];
+    happening.number = load_word(event + AT_WORD);
+    happening.value = long_at(event + AT_LONG);
+    memcpy(happening.eoi_exit, event + AT_EXITS, EXITS);
+    return happening;
+}
+
+static void put_cpu(uint8_t *record, const struct cpu *cpu)
+{
+    record[0] = (uint8_t)cpu->mode;
+    record[1] = (uint8_t)cpu->rvi;
+    record[2] = (uint8_t)cpu->svi;
+    record[3] = (uint8_t)cpu->recognised;
+    store_word(record + AT_WORD, cpu->threshold);
+    store_word(record + AT_LONG, (uint32_t)cpu->controls);
+    store_word(record + AT_LONG + 4, (uint32_t)(cpu->controls >> 32));
+    memcpy(record + AT_EXITS, cpu->eoi_exit, EXITS);
+}
+
+uint32_t second_step(uint8_t *page, size_t page_len, uint8_t *record, size_t record_len,
+                     const uint8_t *event, size_t event_len, uint64_t *first, uint64_t *second)
+{
+    struct cpu cpu = edge_cpu(record, record_len);
+    struct happening happening = edge_happening(event, event_len);
+    struct outcome outcome = oracle_step(&cpu, page, page_len, &happening);
+    if (outcome.answer != 0)
+        put_cpu(record, &cpu);
+    *first = outcome.first;
+    *second = outcome.second;
+    return outcome.answer;
+}
+
+uint32_t second_fresh(uint8_t *record, size_t record_len)
+{
+    if (record_len != LENGTH)
+        return 0;
+    memset(record, 0, LENGTH);
+    return 6;
+}

@@ -1,0 +1,68 @@
+/* Wrong rules that the second program can be told to follow, one at a time. */
+#ifndef FAULTS_H
+#define FAULTS_H
+
+/* Name in the source, name on the command line, the rule as it is then followed. */
+#define FAULT_LIST(X)                                                                            \
+    X(ICR_RESERVED, "icr-11-14-reserved", "bits 11 and 14 of VICR_LO must be 0 as well")         \
+    X(ICR_SPARE, "icr-13-spare", "bit 13 of VICR_LO isn't looked at")                            \
+    X(ICR_SHORTHAND, "icr-shorthand", "bits 19:18 of VICR_LO aren't looked at")                  \
+    X(EOI_NEW_SVI, "eoi-exit-of-new-svi", "an EOI looks at the EOI-exit bit of the new SVI")     \
+    X(EOI_EVALUATES, "eoi-exit-evaluates", "evaluation follows an EOI exit")                     \
+    X(EOI_KEEPS_BIT, "eoi-keeps-bit", "an EOI leaves the service bit set")                       \
+    X(EVALUATE_BYTES, "evaluate-whole-bytes", "evaluation compares whole bytes")                 \
+    X(EVALUATE_WINDOW, "evaluate-in-window", "evaluation ignores interrupt-window exiting")      \
+    X(EXIT_SKIPS_STORE, "exit-56-skips-store", "a write followed by exit 56 isn't stored")       \
+    X(PPR_TASK_BYTE, "ppr-vtpr-byte", "VPPR is VTPR's byte even when SVI's class is larger")     \
+    X(PPR_TIE, "ppr-tie", "VTPR must have the larger class to decide VPPR")                      \
+    X(PPR_NARROW, "ppr-one-byte", "PPR virtualization writes one byte of VPPR")                  \
+    X(CHECK_ORDER, "entry-check-order", "check 2 is made before check 1")                        \
+    X(ENTRY_NO_43, "entry-no-exit-43", "an entry never exits below the threshold")               \
+    X(ENTRY_43_DROPS, "entry-exit-43-drops-controls", "exit 43 on entry keeps the old controls") \
+    X(ENTRY_NO_PPR, "entry-no-ppr", "an entry with VID skips PPR virtualization")                \
+    X(REQUEST_MAX, "request-sets-rvi", "a request makes RVI its vector, larger or not")          \
+    X(FETCH_AS_READ, "fetch-qualified-as-read", "exit 44 on a fetch is qualified as a read")     \
+    X(ALREADY_IGNORED, "already-virtualised-ignored", "the already-virtualised flag is ignored") \
+    X(ACROSS, "access-may-run-over", "an access may run past its register's four bytes")         \
+    X(OPEN_WRITE_030, "version-is-writable", "030 is open to writes")                            \
+    X(OPEN_NO_3E0, "divide-is-closed", "3E0 isn't open")                                         \
+    X(OPEN_EOI_BYTES, "veoi-bytes-open", "with VID alone the bytes 0B1 to 0B3 are open")         \
+    X(VTPR_TOP, "vtpr-keeps-top", "a write to 080 leaves bytes 3:1 of VTPR")                     \
+    X(VICR_HI_EXACT, "vicr-hi-exact", "a write to 311, 312 or 313 gives exit 56")                \
+    X(CR8_REGISTER, "cr8-no-register", "exit 28's qualification lacks the register")             \
+    X(CR8_DIRECTION, "cr8-no-direction", "exit 28's qualification lacks the direction")          \
+    X(RDMSR_RANGE, "rdmsr-to-83f", "RDMSR is redirected up to 83FH only")                        \
+    X(WRMSR_FAULT, "wrmsr-no-fault", "a value above 255 doesn't fault at 808H and 83FH")         \
+    X(WRMSR_EOI, "wrmsr-eoi-any-value", "80BH takes any value up to 255")                        \
+    X(WRMSR_NARROW, "wrmsr-four-bytes", "WRMSR stores four bytes")                               \
+    X(WRMSR_NO_STORE, "wrmsr-83f-not-stored", "a self-IPI by WRMSR isn't stored at 3F0")         \
+    X(THRESHOLD_BITS, "threshold-whole", "TPR virtualization compares the whole threshold")      \
+    X(HLT_SHUT, "hlt-is-shut", "a boundary in HLT isn't open")                                   \
+    X(MOV_SS_OPEN, "mov-ss-is-open", "blocking by MOV SS doesn't block")                         \
+    X(DELIVERY_KEEPS, "delivery-keeps-request", "a delivery leaves the request bit set")         \
+    X(DELIVERY_AGAIN, "delivery-stays-recognised", "a delivery leaves recognition on")           \
+    X(EXIT_IN_GUEST, "exit-7-in-guest", "exit 7 leaves the processor in guest mode")             \
+    X(MODE_FIRST, "mode-before-bounds", "refusal 3 is tested before refusal 2")                  \
+    X(BOUNDS_CR8, "bounds-cr8", "a CR8 value above 15 is taken")                                 \
+    X(BOUNDS_VALUE, "bounds-write-value", "a write's value may exceed its size")                 \
+    X(BOUNDS_ACTIVITY, "bounds-activity", "activity 4 is taken")
+
+#define FAULT_NUMBER(symbol, name, words) FAULT_##symbol,
+enum fault { FAULT_NONE, FAULT_LIST(FAULT_NUMBER) FAULT_END };
+#undef FAULT_NUMBER
+
+/* The fault that is on; FAULT_NONE is the second program as document 01 has it. */
+extern enum fault fault_on;
+
+enum fault fault_by_name(const char *name);
+const char *fault_name(enum fault fault);
+void fault_print_all(void);
+
+/* A build for timing leaves every fault out, so that none costs an instruction. */
+#ifdef WITHOUT_FAULTS
+#define FAULT(symbol) 0
+#else
+#define FAULT(symbol) (fault_on == FAULT_##symbol)
+#endif
+
+#endif

@@ -1,0 +1,33 @@
+/* Random states, events and damage. */
+#ifndef GENERATE_H
+#define GENERATE_H
+
+#include "random.h"
+#include "trial.h"
+
+/* The control settings that document 01 names: V, M adds control 1, R adds control 3. */
+#define CONTROLS_V \
+    (GG_USE_TPR_SHADOW | GG_VIRTUAL_INTERRUPT_DELIVERY | GG_EXTERNAL_INTERRUPT_EXITING)
+#define CONTROLS_M (CONTROLS_V | GG_VIRTUALIZE_APIC_ACCESSES)
+#define CONTROLS_R (CONTROLS_M | GG_APIC_REGISTER_VIRTUALIZATION)
+#define CONTROLS_X2 (CONTROLS_V | GG_VIRTUALIZE_X2APIC_MODE)
+
+/* A value of VICR_LO that asks for a self-IPI. */
+enum { SELF_IPI = 0x40000 };
+
+/* An arbitrary record and page, reachable or not. */
+void generate_state(struct random *r, struct trial *t);
+
+/* Four words of EOI-exit bits: none, a few, or all kinds. */
+void generate_exits(struct random *r, uint64_t exits[4]);
+
+/* An event of a kind with every field in bounds, near the edges of the rules. */
+struct gg_event generate_event(struct random *r, unsigned kind);
+
+/* A single step from an arbitrary state. */
+void generate_single(struct random *r, struct trial *t);
+
+/* A single step with one to three things damaged. */
+void generate_junk(struct random *r, struct trial *t);
+
+#endif

@@ -1,0 +1,374 @@
+/* Named cases; each expected number stands in document 01. */
+#include "named.h"
+
+#include "edge.h"
+#include "generate.h"
+#include "stage.h"
+
+#include <stdio.h>
+#include <string.h>
+
+#define OPEN_BOUNDARY gg_boundary(GG_IF, GG_ACTIVE)
+
+/* The word of a register that holds a vector's bit. */
+#define VISR_60 0x130
+#define VIRR_60 0x230
+
+static void write_icr(struct stage *s, uint32_t value)
+{
+    stage_step(s, gg_memory_write(GG_VICR_LO, 4, value, 0));
+}
+
+static void write_eoi(struct stage *s)
+{
+    stage_step(s, gg_memory_write(GG_VEOI, 4, 0, 0));
+}
+
+/* The events of K1 under the given controls, expecting nothing yet. */
+static void after_k1(struct stage *s, uint64_t controls)
+{
+    stage_fresh(s);
+    stage_step(s, gg_request(0x60));
+    expect_quiet(s);
+    stage_step(s, gg_entry(controls, 0, NULL));
+    expect_quiet(s);
+    stage_step(s, OPEN_BOUNDARY);
+}
+
+static void k1(struct stage *s)
+{
+    after_k1(s, CONTROLS_V);
+    expect_answer(s, GG_DELIVERED, 0x60, 0);
+    expect_word(s, VISR_60, 1);
+    expect_word(s, VIRR_60, 0);
+    expect_svi(s, 0x60);
+    expect_word(s, GG_VPPR, 0x60);
+    expect_rvi(s, 0);
+}
+
+static void after_k2(struct stage *s)
+{
+    after_k1(s, CONTROLS_M);
+    write_icr(s, 0x00040071);
+    expect_quiet(s);
+    stage_step(s, OPEN_BOUNDARY);
+}
+
+static void k2(struct stage *s)
+{
+    after_k2(s);
+    expect_answer(s, GG_DELIVERED, 0x71, 0);
+    expect_word(s, VISR_60, 0x00020001);
+    expect_word(s, GG_VPPR, 0x70);
+}
+
+static void k3(struct stage *s)
+{
+    after_k2(s);
+    write_eoi(s);
+    expect_quiet(s);
+    expect_svi(s, 0x60);
+    expect_word(s, GG_VPPR, 0x60);
+}
+
+static void k4(struct stage *s)
+{
+    after_k1(s, CONTROLS_M);
+    write_icr(s, 0x00040065);
+    expect_quiet(s);
+    expect_rvi(s, 0x65);
+    expect_recognised(s, 0);
+}
+
+static void k5(struct stage *s)
+{
+    after_k1(s, CONTROLS_M);
+    write_icr(s, 0x00042071);
+    expect_answer(s, GG_VM_EXIT, 56, 0x300);
+    expect_mode(s, GG_ROOT);
+    for (uint32_t row = 0; row < 8; row++)
+        expect_word(s, GG_VIRR + 16 * row, 0);
+    expect_word(s, GG_VICR_LO, 0x00042071);
+}
+
+static void k6(struct stage *s)
+{
+    static const uint32_t values[] = {0x00040871, 0x00044071};
+    for (int i = 0; i < 2; i++) {
+        after_k1(s, CONTROLS_M);
+        write_icr(s, values[i]);
+        expect_quiet(s);
+        expect_rvi(s, 0x71);
+        expect_recognised(s, 1);
+        expect_word(s, VIRR_60, 0x00020000);
+    }
+}
+
+static void k7(struct stage *s)
+{
+    after_k1(s, CONTROLS_M);
+    write_icr(s, 0x0004000F);
+    expect_answer(s, GG_VM_EXIT, 56, 0x300);
+    after_k1(s, CONTROLS_M);
+    write_icr(s, 0x00040010);
+    expect_quiet(s);
+    expect_rvi(s, 0x10);
+}
+
+/* PPR virtualization alone: a TPR write with VID does it, and VTPR is the value written. */
+static void k8(struct stage *s)
+{
+    stage_guest(s, CONTROLS_M);
+    stage_set_priority(s, 0, 0x60);
+    stage_step(s, gg_memory_write(GG_VTPR, 4, 0x6F, 0));
+    expect_quiet(s);
+    expect_word(s, GG_VPPR, 0x6F);
+    stage_guest(s, CONTROLS_M);
+    stage_set_priority(s, 0, 0x63);
+    stage_step(s, gg_memory_write(GG_VTPR, 4, 0x5F, 0));
+    expect_quiet(s);
+    expect_word(s, GG_VPPR, 0x60);
+}
+
+static void k9(struct stage *s)
+{
+    for (uint64_t value = 4; value <= 5; value++) {
+        stage_guest(s, GG_USE_TPR_SHADOW);
+        stage_set_threshold(s, 5);
+        stage_set_priority(s, 0x50, 0);
+        stage_step(s, gg_to_cr8(value, 0));
+        if (value == 4)
+            expect_answer(s, GG_VM_EXIT, 43, 0);
+        else
+            expect_quiet(s);
+        expect_word(s, GG_VTPR, (uint32_t)(16 * value));
+    }
+}
+
+static void k10(struct stage *s)
+{
+    stage_guest(s, CONTROLS_R);
+    stage_step(s, gg_memory_read(0x083, 1, 0));
+    expect_answer(s, GG_REDIRECTED, 0, 0);
+    stage_guest(s, CONTROLS_M);
+    stage_step(s, gg_memory_read(0x083, 1, 0));
+    expect_answer(s, GG_VM_EXIT, 44, 0x083);
+}
+
+static void k11(struct stage *s)
+{
+    stage_guest(s, CONTROLS_R);
+    stage_step(s, gg_memory_write(0x082, 2, 0xABCD, 0));
+    expect_answer(s, GG_VM_EXIT, 56, 0x082);
+    expect_word(s, GG_VTPR, 0xABCD0000);
+    stage_guest(s, CONTROLS_R);
+    stage_step(s, gg_memory_write(0x0A0, 4, 0x70, 0));
+    expect_answer(s, GG_VM_EXIT, 44, 0x10A0);
+    expect_word(s, GG_VPPR, 0);
+}
+
+static void k12(struct stage *s)
+{
+    stage_fresh(s);
+    stage_step(s, gg_request(0));
+    expect_quiet(s);
+    stage_step(s, gg_entry(CONTROLS_V, 0, NULL));
+    expect_quiet(s);
+    expect_word(s, GG_VIRR, 1);
+    expect_rvi(s, 0);
+    expect_recognised(s, 0);
+}
+
+static void k3_with_exit(struct stage *s)
+{
+    after_k2(s);
+    stage_set_eoi_exit(s, 0x71);
+    write_eoi(s);
+    expect_answer(s, GG_VM_EXIT, 45, 0x71);
+    expect_svi(s, 0x60);
+    expect_mode(s, GG_ROOT);
+}
+
+static void eoi_of_nothing(struct stage *s)
+{
+    stage_guest(s, CONTROLS_M);
+    struct trial kept = s->now;
+    write_eoi(s);
+    expect_quiet(s);
+    expect_svi(s, 0);
+    expect_page(s, &kept);
+}
+
+static void bochs_1(struct stage *s)
+{
+    static const uint16_t offsets[] = {GG_VEOI, GG_VICR_LO};
+    for (int i = 0; i < 2; i++) {
+        stage_guest(s, CONTROLS_M);
+        trial_put_word(&s->now, offsets[i], 0x12345678);
+        stage_step(s, gg_memory_read(offsets[i], 4, 0));
+        expect_answer(s, GG_REDIRECTED, 0x12345678, 0);
+        expect_mode(s, GG_GUEST);
+    }
+}
+
+static void bochs_2(struct stage *s)
+{
+    static const uint16_t bases[] = {GG_VEOI, GG_VICR_LO};
+    for (uint32_t i = 0; i < 6; i++) {
+        uint32_t offset = bases[i / 3] + 1 + i % 3;
+        stage_guest(s, CONTROLS_M);
+        struct trial kept = s->now;
+        stage_step(s, gg_memory_write(offset, 1, 0xFF, 0));
+        expect_answer(s, GG_VM_EXIT, 44, 0x1000 + offset);
+        expect_page(s, &kept);
+    }
+}
+
+static void bochs_3(struct stage *s)
+{
+    stage_guest(s, CONTROLS_R);
+    stage_step(s, gg_memory_read(GG_VTPR, 4, GG_INSTRUCTION_FETCH));
+    expect_answer(s, GG_VM_EXIT, 44, 0x2080);
+    expect_mode(s, GG_ROOT);
+}
+
+static void bochs_4(struct stage *s)
+{
+    stage_fresh(s);
+    stage_step(s, gg_request(0x60));
+    stage_step(s, gg_entry(CONTROLS_V, 0, NULL));
+    stage_step(s, gg_boundary(GG_IF, GG_HLT));
+    expect_answer(s, GG_DELIVERED, 0x60, 0);
+    stage_guest(s, CONTROLS_V | GG_INTERRUPT_WINDOW_EXITING);
+    stage_step(s, gg_boundary(GG_IF, GG_HLT));
+    expect_answer(s, GG_VM_EXIT, 7, 0);
+}
+
+static void bochs_5(struct stage *s)
+{
+    stage_guest(s, CONTROLS_X2);
+    stage_step(s, gg_wrmsr(0x83F, 0x71));
+    expect_quiet(s);
+    expect_word(s, 0x3F0, 0x71);
+    expect_rvi(s, 0x71);
+}
+
+static void bochs_6(struct stage *s)
+{
+    stage_guest(s, CONTROLS_X2);
+    memset(trial_page(&s->now) + GG_VEOI, 0xFF, 16);
+    stage_step(s, gg_wrmsr(0x80B, 0));
+    expect_quiet(s);
+    expect_word(s, 0x0B0, 0);
+    expect_word(s, 0x0B4, 0);
+    expect_word(s, 0x0B8, 0xFFFFFFFF);
+}
+
+static void bochs_7(struct stage *s)
+{
+    stage_fresh(s);
+    stage_set_priority(s, 0x40, 0);
+    struct trial kept = s->now;
+    stage_step(s, gg_entry(GG_USE_TPR_SHADOW, 5, NULL));
+    expect_answer(s, GG_VM_EXIT, 43, 0);
+    expect_mode(s, GG_ROOT);
+    expect_page(s, &kept);
+    expect_true(s, trial_record(&s->now).threshold == 5, "the entry's threshold in the record");
+}
+
+/* Controls that fail several checks, with the first that fails. */
+static void bochs_8(struct stage *s)
+{
+    const uint64_t both = GG_VIRTUALIZE_APIC_ACCESSES | GG_VIRTUALIZE_X2APIC_MODE;
+    const struct {
+        uint64_t controls;
+        uint32_t threshold, check;
+    } rows[] = {
+        {both, 0, GG_CHECK_TPR_SHADOW_OFF},
+        {both | GG_VIRTUAL_INTERRUPT_DELIVERY, 16, GG_CHECK_TPR_SHADOW_OFF},
+        {GG_VIRTUAL_INTERRUPT_DELIVERY, 16, GG_CHECK_TPR_SHADOW_OFF},
+        {both | GG_USE_TPR_SHADOW | GG_VIRTUAL_INTERRUPT_DELIVERY, 16, GG_CHECK_BOTH_APIC_MODES},
+        {both | GG_USE_TPR_SHADOW, 16, GG_CHECK_BOTH_APIC_MODES},
+        {GG_USE_TPR_SHADOW | GG_VIRTUAL_INTERRUPT_DELIVERY, 16, GG_CHECK_EXTERNAL_INTERRUPTS},
+        {GG_USE_TPR_SHADOW, 16, GG_CHECK_TPR_THRESHOLD},
+    };
+    for (size_t i = 0; i < sizeof rows / sizeof rows[0]; i++) {
+        stage_fresh(s);
+        struct trial kept = s->now;
+        stage_step(s, gg_entry(rows[i].controls, rows[i].threshold, NULL));
+        expect_answer(s, GG_REFUSED, GG_REFUSED_ENTRY_CHECK, rows[i].check);
+        expect_page(s, &kept);
+    }
+}
+
+/* A request of class 0 never gets past a VPPR of 0. */
+static void qemu_1(struct stage *s)
+{
+    stage_fresh(s);
+    stage_step(s, gg_request(0x0F));
+    stage_step(s, gg_entry(CONTROLS_V, 0, NULL));
+    expect_recognised(s, 0);
+    stage_step(s, OPEN_BOUNDARY);
+    expect_quiet(s);
+    expect_rvi(s, 0x0F);
+}
+
+/* A fresh record is 48 zero bytes; another length is refused and left. */
+static void fresh(struct stage *s)
+{
+    uint8_t model[64], second[64];
+    for (size_t length = 0; length <= sizeof model; length++) {
+        memset(model, 0x5A, sizeof model);
+        memset(second, 0x5A, sizeof second);
+        uint32_t wanted = length == GG_RECORD_LENGTH ? GG_QUIET : GG_REFUSED;
+        expect_true(s, gg_fresh(model, length) == wanted, "the model's answer to fresh");
+        expect_true(s, second_fresh(second, length) == wanted, "the second program's answer to fresh");
+        expect_true(s, !memcmp(model, second, sizeof model), "equal bytes after fresh");
+        expect_true(s, model[0] == (wanted == GG_QUIET ? 0 : 0x5A), "a zero record only for 48 bytes");
+    }
+}
+
+static const struct {
+    const char *name;
+    void (*play)(struct stage *s);
+    const char *words;
+} cases[] = {
+    {"K1", k1, "request, entry, delivery of 60"},
+    {"K2", k2, "a self-IPI of 71 nests over 60"},
+    {"K3", k3, "EOI returns to 60"},
+    {"K4", k4, "65 doesn't preempt 60"},
+    {"K5", k5, "ICR bit 13 leaves the write to the hypervisor"},
+    {"K6", k6, "ICR bits 11 and 14 aren't looked at"},
+    {"K7", k7, "vector 0F exits, vector 10 is sent"},
+    {"K8", k8, "PPR virtualization"},
+    {"K9", k9, "CR8 below and at the threshold"},
+    {"K10", k10, "a read of 083 with and without control 3"},
+    {"K11", k11, "a write of 082 is stored, one of 0A0 isn't"},
+    {"K12", k12, "vector 0 is requested and not recognised"},
+    {"K3-EOI-EXIT", k3_with_exit, "K3 with EOI-exit bit 71"},
+    {"EOI-OF-NOTHING", eoi_of_nothing, "EOI with nothing in service"},
+    {"BOCHS-1", bochs_1, "VID without control 3: reads of 0B0 and 300 are redirected"},
+    {"BOCHS-2", bochs_2, "VID without control 3: writes inside 0B0 and 300 exit 44"},
+    {"BOCHS-3", bochs_3, "a fetch exits 44"},
+    {"BOCHS-4", bochs_4, "HLT is open for delivery and for exit 7"},
+    {"BOCHS-5", bochs_5, "a self-IPI by WRMSR is stored at 3F0"},
+    {"BOCHS-6", bochs_6, "WRMSR 80B stores eight bytes"},
+    {"BOCHS-7", bochs_7, "entry below the threshold exits 43 without control 1"},
+    {"BOCHS-8", bochs_8, "the order of the entry checks"},
+    {"QEMU-1", qemu_1, "class 0 waits even where VPPR is 0"},
+    {"FRESH", fresh, "the fresh record and its length"},
+};
+
+unsigned named_run(void)
+{
+    static struct stage stage;
+    unsigned failed = 0;
+    for (size_t i = 0; i < sizeof cases / sizeof cases[0]; i++) {
+        stage.name = cases[i].name;
+        stage.failures = 0;
+        cases[i].play(&stage);
+        printf("%s %s: %s\n", stage.failures ? "FAILED" : "ok", cases[i].name, cases[i].words);
+        failed += stage.failures > 0;
+    }
+    return failed;
+}

@@ -1,0 +1,353 @@
+/* Document 01's rules: the five procedures and the events. */
+#include "oracle.h"
+
+#include "bounds.h"
+#include "faults.h"
+#include "open.h"
+#include "registers.h"
+#include "terms.h"
+
+#include <string.h>
+
+/* One processor with its page, as every rule sees it. */
+struct apic {
+    struct cpu *cpu;
+    uint8_t *page;
+};
+
+static struct outcome answer(unsigned number, uint64_t first, uint64_t second)
+{
+    return (struct outcome){number, first, second};
+}
+
+static struct outcome quiet(void)
+{
+    return answer(QUIET, 0, 0);
+}
+
+static struct outcome passthrough(void)
+{
+    return answer(PASSTHROUGH, 0, 0);
+}
+
+/* Every exit leaves the guest and drops recognition. */
+static struct outcome leave(struct apic *a, unsigned reason, uint64_t qualification)
+{
+    a->cpu->mode = 0;
+    a->cpu->recognised = 0;
+    return answer(EXITED, reason, qualification);
+}
+
+static bool on(const struct apic *a, unsigned bit)
+{
+    return in(a->cpu->controls, bit);
+}
+
+/* PPR virtualization. */
+static void set_ppr(struct apic *a)
+{
+    unsigned task = a->page[VTPR], service = a->cpu->svi;
+    bool by_task = class_of(task) >= class_of(service);
+    if (FAULT(PPR_TIE))
+        by_task = class_of(task) > class_of(service);
+    if (FAULT(PPR_TASK_BYTE))
+        by_task = true;
+    uint32_t kept = FAULT(PPR_NARROW) ? load_word(a->page + VPPR) & ~0xFFu : 0;
+    store_word(a->page + VPPR, kept | (by_task ? task : service & 0xF0));
+}
+
+/* Evaluation of pending virtual interrupts. */
+static void evaluate(struct apic *a)
+{
+    bool above = class_of(a->cpu->rvi) > class_of(a->page[VPPR]);
+    if (FAULT(EVALUATE_BYTES))
+        above = a->cpu->rvi > a->page[VPPR];
+    a->cpu->recognised = above && (FAULT(EVALUATE_WINDOW) || !on(a, WINDOW));
+}
+
+/* TPR virtualization. */
+static struct outcome tpr(struct apic *a)
+{
+    uint32_t limit = FAULT(THRESHOLD_BITS) ? a->cpu->threshold : a->cpu->threshold & 15;
+    if (!on(a, DELIVERY))
+        return class_of(a->page[VTPR]) < limit ? leave(a, 43, 0) : quiet();
+    set_ppr(a);
+    evaluate(a);
+    return quiet();
+}
+
+/* EOI virtualization: the EOI-exit bit is that of the vector retired. */
+static struct outcome eoi(struct apic *a)
+{
+    unsigned old = a->cpu->svi;
+    if (!FAULT(EOI_KEEPS_BIT))
+        put_vector(a->page, VISR, old, false);
+    a->cpu->svi = highest(a->page, VISR);
+    set_ppr(a);
+    unsigned asked = FAULT(EOI_NEW_SVI) ? a->cpu->svi : old;
+    bool leaves = a->cpu->eoi_exit[asked / 8] >> asked % 8 & 1;
+    struct outcome result = leaves ? leave(a, 45, old) : quiet();
+    if (!leaves || FAULT(EOI_EVALUATES))
+        evaluate(a);
+    return result;
+}
+
+static struct outcome request(struct apic *a, unsigned vector)
+{
+    put_vector(a->page, VIRR, vector, true);
+    if (vector > a->cpu->rvi || FAULT(REQUEST_MAX))
+        a->cpu->rvi = vector;
+    return quiet();
+}
+
+/* Self-IPI virtualization. */
+static struct outcome self_ipi(struct apic *a, unsigned vector)
+{
+    request(a, vector);
+    evaluate(a);
+    return quiet();
+}
+
+/* The number of the first entry check that fails, 0 where none does. */
+static unsigned failing_check(const struct happening *e)
+{
+    uint64_t c = e->value;
+    bool shadow = in(c, SHADOW), vid = in(c, DELIVERY);
+    bool both = in(c, ACCESSES) && in(c, X2APIC);
+    if (FAULT(CHECK_ORDER) && both)
+        return 2;
+    if (!shadow && (in(c, X2APIC) || in(c, REGISTERS) || vid))
+        return 1;
+    if (both)
+        return 2;
+    if (vid && !in(c, EXTERNAL))
+        return 3;
+    return shadow && !vid && e->number > 15 ? 4 : 0;
+}
+
+static struct outcome entry(struct apic *a, const struct happening *e)
+{
+    unsigned check = failing_check(e);
+    if (check)
+        return answer(REFUSED, 4, check);
+    struct cpu before = *a->cpu;
+    a->cpu->controls = e->value;
+    a->cpu->threshold = e->number;
+    memcpy(a->cpu->eoi_exit, e->eoi_exit, sizeof e->eoi_exit);
+    bool below = class_of(a->page[VTPR]) < e->number;
+    if (on(a, SHADOW) && !on(a, DELIVERY) && below && !FAULT(ENTRY_NO_43)) {
+        if (FAULT(ENTRY_43_DROPS))
+            *a->cpu = before;
+        return leave(a, 43, 0);
+    }
+    a->cpu->mode = 1;
+    a->cpu->recognised = 0;
+    if (on(a, DELIVERY)) {
+        if (!FAULT(ENTRY_NO_PPR))
+            set_ppr(a);
+        evaluate(a);
+    }
+    return quiet();
+}
+
+/* Whether an access to a virtualised page leaves the guest instead of being redirected. */
+static bool access_exits(const struct apic *a, const struct happening *e)
+{
+    if (!on(a, SHADOW) || (e->flags & FETCH) || e->size == 8)
+        return true;
+    if ((e->flags & ALREADY) && !FAULT(ALREADY_IGNORED))
+        return true;
+    if (e->number % 16 + e->size > 4 && !FAULT(ACROSS))
+        return true;
+    return !open_offset(a->cpu->controls, e->number, e->kind == WRITE);
+}
+
+static struct outcome access_exit(struct apic *a, const struct happening *e)
+{
+    unsigned access = e->kind == WRITE ? 0x1000 : e->flags & FETCH ? 0x2000 : 0;
+    if (FAULT(FETCH_AS_READ) && access == 0x2000)
+        access = 0;
+    return leave(a, 44, e->number + access);
+}
+
+static struct outcome memory_read(struct apic *a, const struct happening *e)
+{
+    if (!on(a, ACCESSES))
+        return passthrough();
+    if (access_exits(a, e))
+        return access_exit(a, e);
+    return answer(REDIRECTED, load(a->page + e->number, e->size), 0);
+}
+
+/* Whether VICR_LO asks for a fixed, edge-triggered self-IPI; bits 11 and 14 don't count. */
+static bool is_self_ipi(uint32_t icr)
+{
+    uint32_t zero = 0xFFF00000u | 3u << 16 | 1u << 15 | 1u << 13 | 1u << 12 | 7u << 8;
+    if (FAULT(ICR_RESERVED))
+        zero |= 1u << 14 | 1u << 11;
+    if (FAULT(ICR_SPARE))
+        zero &= ~(1u << 13);
+    bool self = (icr >> 18 & 3) == 1 || FAULT(ICR_SHORTHAND);
+    return !(icr & zero) && self && class_of(icr) != 0;
+}
+
+/* What follows a redirected write once its bytes are on the page. */
+static struct outcome after_write(struct apic *a, unsigned offset)
+{
+    if (offset == VTPR) {
+        if (!FAULT(VTPR_TOP))
+            store_word(a->page + VTPR, a->page[VTPR]);
+        return tpr(a);
+    }
+    if (offset == VEOI && on(a, DELIVERY)) {
+        store_word(a->page + VEOI, 0);
+        return eoi(a);
+    }
+    if (offset == ICR_LOW && on(a, DELIVERY) && is_self_ipi(load_word(a->page + ICR_LOW)))
+        return self_ipi(a, a->page[ICR_LOW]);
+    if (FAULT(VICR_HI_EXACT) ? offset == ICR_HIGH : offset / 4 == ICR_HIGH / 4) {
+        store(a->page + ICR_HIGH, 3, 0);
+        return quiet();
+    }
+    return leave(a, 56, offset);
+}
+
+static struct outcome memory_write(struct apic *a, const struct happening *e)
+{
+    if (!on(a, ACCESSES))
+        return passthrough();
+    if (access_exits(a, e))
+        return access_exit(a, e);
+    uint64_t old = FAULT(EXIT_SKIPS_STORE) ? load(a->page + e->number, e->size) : 0;
+    store(a->page + e->number, e->size, e->value);
+    struct outcome result = after_write(a, e->number);
+    if (FAULT(EXIT_SKIPS_STORE) && result.answer == EXITED && result.first == 56)
+        store(a->page + e->number, e->size, old);
+    return result;
+}
+
+/* Exit 28's qualification: register 8, the direction, the general register. */
+static uint64_t cr8_qualification(const struct happening *e)
+{
+    uint64_t direction = e->kind == FROM_CR8 && !FAULT(CR8_DIRECTION) ? 16 : 0;
+    return 8 + direction + (FAULT(CR8_REGISTER) ? 0 : 256 * (uint64_t)e->detail);
+}
+
+static struct outcome to_cr8(struct apic *a, const struct happening *e)
+{
+    if (on(a, CR8_LOAD))
+        return leave(a, 28, cr8_qualification(e));
+    if (!on(a, SHADOW))
+        return passthrough();
+    store_word(a->page + VTPR, 16 * (uint32_t)e->value);
+    return tpr(a);
+}
+
+static struct outcome from_cr8(struct apic *a, const struct happening *e)
+{
+    if (on(a, CR8_STORE))
+        return leave(a, 28, cr8_qualification(e));
+    if (!on(a, SHADOW))
+        return passthrough();
+    return answer(REDIRECTED, class_of(a->page[VTPR]), 0);
+}
+
+static uint8_t *msr_place(struct apic *a, uint32_t index)
+{
+    return a->page + index % 256 * 16;
+}
+
+static struct outcome rdmsr(struct apic *a, const struct happening *e)
+{
+    uint32_t last = FAULT(RDMSR_RANGE) ? 0x83F : 0x8FF;
+    bool inside = e->number >= 0x800 && e->number <= last;
+    if (!on(a, X2APIC) || !inside || (!on(a, REGISTERS) && e->number != MSR_TPR))
+        return passthrough();
+    return answer(REDIRECTED, load(msr_place(a, e->number), 8), 0);
+}
+
+static bool wrmsr_faults(const struct happening *e)
+{
+    if (e->number == MSR_EOI)
+        return e->value > (FAULT(WRMSR_EOI) ? 255 : 0);
+    return e->value > 255 && !FAULT(WRMSR_FAULT);
+}
+
+static struct outcome wrmsr(struct apic *a, const struct happening *e)
+{
+    bool with_vid = e->number == MSR_EOI || e->number == MSR_SELF_IPI;
+    if (!on(a, X2APIC) || !(e->number == MSR_TPR || (with_vid && on(a, DELIVERY))))
+        return passthrough();
+    if (wrmsr_faults(e))
+        return answer(FAULTED, 0, 0);
+    unsigned vector = e->value & 0xFF;
+    bool self = e->number == MSR_SELF_IPI, sends = self && vector >= 16;
+    bool skipped = sends ? FAULT(WRMSR_NO_STORE) : self && FAULT(EXIT_SKIPS_STORE);
+    if (!skipped)
+        store(msr_place(a, e->number), FAULT(WRMSR_NARROW) ? 4 : 8, e->value);
+    if (e->number == MSR_TPR)
+        return tpr(a);
+    if (e->number == MSR_EOI)
+        return eoi(a);
+    return sends ? self_ipi(a, vector) : leave(a, 56, 0x3F0);
+}
+
+static bool boundary_open(const struct happening *e)
+{
+    unsigned counted = FAULT(MOV_SS_OPEN) ? 3 : 7;
+    return (e->flags & counted) == 1 && e->detail <= (FAULT(HLT_SHUT) ? 0 : 1);
+}
+
+/* Virtual-interrupt delivery of RVI. */
+static struct outcome deliver(struct apic *a)
+{
+    unsigned vector = a->cpu->rvi;
+    put_vector(a->page, VISR, vector, true);
+    a->cpu->svi = vector;
+    store_word(a->page + VPPR, vector & 0xF0);
+    if (!FAULT(DELIVERY_KEEPS))
+        put_vector(a->page, VIRR, vector, false);
+    a->cpu->rvi = highest(a->page, VIRR);
+    a->cpu->recognised = FAULT(DELIVERY_AGAIN) ? 1 : 0;
+    return answer(DELIVERED, vector, 0);
+}
+
+static struct outcome boundary(struct apic *a, const struct happening *e)
+{
+    bool open = boundary_open(e);
+    if (open && on(a, WINDOW)) {
+        struct outcome result = leave(a, 7, 0);
+        if (FAULT(EXIT_IN_GUEST))
+            a->cpu->mode = 1;
+        return result;
+    }
+    return open && a->cpu->recognised ? deliver(a) : quiet();
+}
+
+struct outcome oracle_step(struct cpu *cpu, uint8_t *page, size_t page_len, const struct happening *event)
+{
+    struct apic a = {cpu, page};
+    unsigned refused = bounds_refusal(cpu, page_len, event);
+    if (refused)
+        return answer(REFUSED, refused, 0);
+    switch (event->kind) {
+    case ENTRY:
+        return entry(&a, event);
+    case READ:
+        return memory_read(&a, event);
+    case WRITE:
+        return memory_write(&a, event);
+    case TO_CR8:
+        return to_cr8(&a, event);
+    case FROM_CR8:
+        return from_cr8(&a, event);
+    case RDMSR:
+        return rdmsr(&a, event);
+    case WRMSR:
+        return wrmsr(&a, event);
+    case BOUNDARY:
+        return boundary(&a, event);
+    default:
+        return request(&a, event->number);
+    }
+}

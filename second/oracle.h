@@ -1,0 +1,42 @@
+/* The second program: document 01's rules, written on their own from its sentences. */
+#ifndef ORACLE_H
+#define ORACLE_H
+
+#include <stddef.h>
+#include <stdint.h>
+
+/* The processor, held in plain fields; out-of-range values are kept so that they can be refused. */
+struct cpu {
+    unsigned mode;
+    unsigned rvi;
+    unsigned svi;
+    unsigned recognised;
+    uint64_t controls;
+    uint32_t threshold;
+    uint8_t eoi_exit[32]; /* vector v at byte v / 8, bit v mod 8 */
+};
+
+/* What happens to the processor; which fields count depends on the kind. */
+struct happening {
+    unsigned kind;
+    unsigned size;
+    unsigned flags;
+    unsigned detail;
+    uint32_t number;
+    uint64_t value;
+    uint8_t eoi_exit[32];
+};
+
+/* An answer's number with its two numbers. */
+struct outcome {
+    unsigned answer;
+    uint64_t first;
+    uint64_t second;
+};
+
+/* A record and an event that no rule allows, used where bytes cannot be read as either. */
+enum { NO_MODE = 255, NO_KIND = 0 };
+
+struct outcome oracle_step(struct cpu *cpu, uint8_t *page, size_t page_len, const struct happening *event);
+
+#endif

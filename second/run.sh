@@ -1,0 +1,67 @@
+#!/bin/sh
+# Builds and runs every native check: run.sh [ARCHIVE]
+# One line for each check, 'N passed, M failed' last, non-zero where a check fails.
+set -u
+
+root=$(cd "$(dirname "$0")/.." && pwd)
+archive=${1:-$root/target/staticlib/libcapi.a}
+. "$root/second/toolchain.sh"
+. "$root/second/build.sh"
+
+log=$out/log
+mkdir -p "$log"
+passed=0
+failed=0
+
+# expect STATUS NAME COMMAND...: the command has to end with this status
+expect() {
+    wanted=$1 name=$2
+    shift 2
+    "$@" >"$log/$name.txt" 2>&1
+    status=$?
+    if [ "$status" = "$wanted" ]; then
+        echo "ok $name"
+        passed=$((passed + 1))
+    else
+        echo "FAILED $name"
+        echo "    status $status, not $wanted"
+        tail -n 30 "$log/$name.txt" | sed 's/^/    /'
+        failed=$((failed + 1))
+    fi
+}
+
+# The simulator's words have to be the stored ones.
+simulator() {
+    $RUN "$out/simulator" >"$out/simulator.txt" &&
+        diff "$root/examples/simulator/expected.txt" "$out/simulator.txt"
+}
+
+# A fault counts as found only by a reported difference.
+find_fault() {
+    $RUN "$out/compare" --fault "$1" gate >"$out/fault.txt"
+    status=$?
+    cat "$out/fault.txt"
+    grep -q '^difference at ' "$out/fault.txt" && return "$status"
+    return 0
+}
+
+# The names of the faults, none where the program is not there.
+faults() {
+    $RUN "$out/compare" faults 2>/dev/null | cut -d' ' -f1
+}
+
+rm -f "$out/compare" "$out/simulator"
+expect 0 header-c build_header_c
+expect 0 header-cpp build_header_cpp
+expect 0 build-compare build_compare "$archive"
+expect 0 gate $RUN "$out/compare" gate
+expect 0 named $RUN "$out/compare" named
+expect 0 fault-list sh -c '[ "$1" -ge 14 ]' - "$(faults | wc -l)"
+for fault in $(faults); do
+    expect 1 "fault-$fault" find_fault "$fault"
+done
+expect 0 build-simulator build_simulator "$archive"
+expect 0 simulator simulator
+
+echo "$passed passed, $failed failed"
+[ "$failed" = 0 ]

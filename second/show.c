@@ -1,0 +1,167 @@
+/* Prints states, events and answers in words. */
+#include "show.h"
+
+#include <inttypes.h>
+#include <stdio.h>
+#include <string.h>
+
+#define COUNT(array) (sizeof(array) / sizeof((array)[0]))
+
+const char *show_kind(unsigned kind)
+{
+    static const char *const names[] = {"unknown",  "entry", "memory read", "memory write", "to CR8",
+                                        "from CR8", "RDMSR", "WRMSR",       "boundary",     "request"};
+    return names[kind < COUNT(names) ? kind : 0];
+}
+
+const char *show_answer(unsigned number)
+{
+    static const char *const names[] = {"refused", "redirected", "passthrough", "fault",
+                                        "VM exit", "delivered",  "quiet"};
+    return number < COUNT(names) ? names[number] : "no answer of document 01";
+}
+
+const char *show_reason(unsigned reason)
+{
+    switch (reason) {
+    case GG_EXIT_INTERRUPT_WINDOW:
+        return "interrupt window";
+    case GG_EXIT_CONTROL_REGISTER:
+        return "control-register access";
+    case GG_EXIT_TPR_BELOW_THRESHOLD:
+        return "TPR below threshold";
+    case GG_EXIT_APIC_ACCESS:
+        return "APIC access";
+    case GG_EXIT_VIRTUALIZED_EOI:
+        return "virtualized EOI";
+    case GG_EXIT_APIC_WRITE:
+        return "APIC write";
+    default:
+        return "unknown reason";
+    }
+}
+
+static void show_bytes(const char *name, const uint8_t *bytes, size_t count)
+{
+    printf("  %s", name);
+    for (size_t at = 0; at < count; at++)
+        printf("%s%02X", at % 4 ? "" : " ", bytes[at]);
+    printf("\n");
+}
+
+static void show_controls(uint64_t flags)
+{
+    static const char *const names[] = {"shadow",   "APIC-accesses", "x2APIC",   "registers", "VID",
+                                        "external", "window",        "CR8-load", "CR8-store"};
+    printf("%03" PRIX64 " (", flags);
+    for (unsigned bit = 0; bit < COUNT(names); bit++)
+        if (flags >> bit & 1)
+            printf(" %s", names[bit]);
+    printf("%s )", flags & ~GG_ALL_CONTROLS ? " and stray bits" : "");
+}
+
+static void show_vectors(const char *name, const struct trial *t, uint32_t base)
+{
+    printf("  %s:", name);
+    unsigned set = trial_count(t, base);
+    for (unsigned vector = 0; vector < 256 && set <= 40; vector++)
+        if (gg_vector_is_set(trial_page_of(t), base, (uint8_t)vector))
+            printf(" %02X", vector);
+    printf(set <= 40 ? "\n" : " %u vectors\n", set);
+}
+
+static void show_record(const struct trial *t)
+{
+    struct gg_record record = trial_record(t);
+    printf("  mode %u, RVI %02X, SVI %02X, recognised %u, threshold %" PRIX32 ", controls ", record.mode,
+           record.rvi, record.svi, record.recognised, record.threshold);
+    show_controls(record.flags);
+    printf("\n");
+    show_bytes("EOI exits", t->record_bytes + GUARD + offsetof(struct gg_record, eoi_exit), 32);
+}
+
+static void show_event(const struct trial *t)
+{
+    struct gg_event event = trial_event(t);
+    printf("  event: %s, size %u, flags %02X, detail %u, number %" PRIX32 ", value %" PRIX64 "\n",
+           show_kind(event.kind), event.size, event.flags, event.detail, event.number, event.value);
+    if (event.kind == GG_ENTRY) {
+        printf("  entry's controls ");
+        show_controls(event.value);
+        printf(", threshold %" PRIX32 "\n", event.number);
+    }
+    show_bytes("event bytes", t->event_bytes + GUARD, GG_EVENT_LENGTH);
+}
+
+void show_trial(const struct trial *t)
+{
+    static const struct {
+        const char *name;
+        uint32_t offset;
+    } words[] = {{"VTPR", GG_VTPR}, {"VPPR", GG_VPPR}, {"VEOI", GG_VEOI}, {"VICR_LO", GG_VICR_LO},
+                 {"VICR_HI", GG_VICR_HI}};
+    printf("  lengths: page %zu, record %zu, event %zu\n", t->page_len, t->record_len, t->event_len);
+    show_record(t);
+    printf("  page:");
+    for (size_t i = 0; i < COUNT(words); i++)
+        printf(" %s %08" PRIX32, words[i].name, gg_word(trial_page_of(t), words[i].offset));
+    printf("\n");
+    show_vectors("VISR", t, GG_VISR);
+    show_vectors("VIRR", t, GG_VIRR);
+    show_event(t);
+}
+
+void show_answer_line(const char *who, const struct gg_answer *answer)
+{
+    printf("  %-6s answers %" PRIu32 " %s, first %" PRIu64 " (%" PRIX64 "H), second %" PRIu64 " (%" PRIX64
+           "H)\n",
+           who, answer->number, show_answer(answer->number), answer->first, answer->first, answer->second,
+           answer->second);
+}
+
+void show_page(const struct trial *t)
+{
+    static const uint8_t zeros[16];
+    for (size_t row = 0; row < GG_PAGE_LENGTH; row += 16)
+        if (memcmp(trial_page_of(t) + row, zeros, sizeof zeros) != 0) {
+            printf("  page %03zX", row);
+            show_bytes("", trial_page_of(t) + row, 16);
+        }
+}
+
+/* Prints up to a few places where two byte arrays differ. */
+static void show_unequal(const char *name, const uint8_t *left, const uint8_t *right, size_t count)
+{
+    unsigned shown = 0;
+    for (size_t at = 0; at < count; at++) {
+        if (left[at] == right[at] || shown++ >= 24)
+            continue;
+        if (at < GUARD)
+            printf("  before the %s, byte -%zu: %02X | %02X\n", name, GUARD - at, left[at], right[at]);
+        else
+            printf("  %s byte %03zXH: %02X | %02X\n", name, at - GUARD, left[at], right[at]);
+    }
+    if (shown > 24)
+        printf("  %s: %u more bytes\n", name, shown - 24);
+}
+
+static void show_two(const struct trial *left, const struct trial *right)
+{
+    show_unequal("record", left->record_bytes, right->record_bytes, sizeof left->record_bytes);
+    show_unequal("page", left->page_bytes, right->page_bytes, trial_page_used(left));
+    show_unequal("event", left->event_bytes, right->event_bytes, sizeof left->event_bytes);
+}
+
+void show_changes(const char *who, const struct trial *before, const struct trial *after)
+{
+    printf("%s changes (before | after):\n", who);
+    show_two(before, after);
+}
+
+void show_differences(const struct pair *pair)
+{
+    printf(pair_same(pair) ? "the two agree\n" : "the two differ in (model | second):\n");
+    if (!answer_same(&pair->model.answer, &pair->second.answer))
+        printf("  the answer\n");
+    show_two(&pair->model.trial, &pair->second.trial);
+}

@@ -1,0 +1,128 @@
+/* The stage of the named cases: steps on both programs, and what they have to show. */
+#include "stage.h"
+
+#include "show.h"
+
+#include <inttypes.h>
+#include <stdio.h>
+#include <string.h>
+
+void stage_fresh(struct stage *s)
+{
+    trial_fresh(&s->now);
+}
+
+void stage_guest(struct stage *s, uint64_t controls)
+{
+    trial_fresh(&s->now);
+    struct gg_record record = trial_record(&s->now);
+    record.mode = GG_GUEST;
+    record.flags = controls;
+    trial_set_record(&s->now, &record);
+}
+
+void stage_set_priority(struct stage *s, uint32_t vtpr, uint8_t svi)
+{
+    struct gg_record record = trial_record(&s->now);
+    record.svi = svi;
+    trial_set_record(&s->now, &record);
+    trial_put_word(&s->now, GG_VTPR, vtpr);
+}
+
+void stage_set_threshold(struct stage *s, uint32_t threshold)
+{
+    struct gg_record record = trial_record(&s->now);
+    record.threshold = threshold;
+    trial_set_record(&s->now, &record);
+}
+
+void stage_set_eoi_exit(struct stage *s, uint8_t vector)
+{
+    struct gg_record record = trial_record(&s->now);
+    record.eoi_exit[vector / 64] |= UINT64_C(1) << vector % 64;
+    trial_set_record(&s->now, &record);
+}
+
+static void fail(struct stage *s, const char *who, const char *what, uint64_t got, uint64_t wanted)
+{
+    printf("  %s: %s: %s is %" PRIX64 "H, document 01 says %" PRIX64 "H\n", s->name, who, what, got, wanted);
+    s->failures++;
+}
+
+void stage_step(struct stage *s, struct gg_event event)
+{
+    trial_set_event(&s->now, &event);
+    pair_run(&s->pair, &s->now);
+    if (!pair_same(&s->pair)) {
+        printf("  %s: model and second program differ\n", s->name);
+        show_answer_line("model", &s->pair.model.answer);
+        show_answer_line("second", &s->pair.second.answer);
+        show_differences(&s->pair);
+        s->failures++;
+    }
+    trial_copy(&s->now, &s->pair.model.trial);
+}
+
+/* Holds one number of each program to the expected one. */
+static void both(struct stage *s, const char *what, uint64_t model, uint64_t second, uint64_t wanted)
+{
+    if (model != wanted)
+        fail(s, "model", what, model, wanted);
+    if (second != wanted)
+        fail(s, "second program", what, second, wanted);
+}
+
+void expect_answer(struct stage *s, uint32_t number, uint64_t first, uint64_t second)
+{
+    const struct gg_answer *model = &s->pair.model.answer, *other = &s->pair.second.answer;
+    both(s, "the answer", model->number, other->number, number);
+    both(s, "the first number", model->first, other->first, first);
+    both(s, "the second number", model->second, other->second, second);
+}
+
+void expect_quiet(struct stage *s)
+{
+    expect_answer(s, GG_QUIET, 0, 0);
+}
+
+void expect_word(struct stage *s, uint32_t offset, uint32_t value)
+{
+    char what[32];
+    snprintf(what, sizeof what, "word %03" PRIX32, offset);
+    both(s, what, gg_word(trial_page_of(&s->pair.model.trial), offset),
+         gg_word(trial_page_of(&s->pair.second.trial), offset), value);
+}
+
+void expect_rvi(struct stage *s, uint8_t rvi)
+{
+    both(s, "RVI", trial_record(&s->pair.model.trial).rvi, trial_record(&s->pair.second.trial).rvi, rvi);
+}
+
+void expect_svi(struct stage *s, uint8_t svi)
+{
+    both(s, "SVI", trial_record(&s->pair.model.trial).svi, trial_record(&s->pair.second.trial).svi, svi);
+}
+
+void expect_recognised(struct stage *s, uint8_t recognised)
+{
+    both(s, "recognised", trial_record(&s->pair.model.trial).recognised,
+         trial_record(&s->pair.second.trial).recognised, recognised);
+}
+
+void expect_mode(struct stage *s, uint8_t mode)
+{
+    both(s, "mode", trial_record(&s->pair.model.trial).mode, trial_record(&s->pair.second.trial).mode, mode);
+}
+
+void expect_true(struct stage *s, int truth, const char *what)
+{
+    if (!truth)
+        fail(s, "both", what, 0, 1);
+}
+
+void expect_page(struct stage *s, const struct trial *kept)
+{
+    size_t size = trial_page_used(kept);
+    both(s, "the page unchanged", !memcmp(s->pair.model.trial.page_bytes, kept->page_bytes, size),
+         !memcmp(s->pair.second.trial.page_bytes, kept->page_bytes, size), 1);
+}

@@ -1,0 +1,39 @@
+/* A stage on which a named case plays, with both programs held to its numbers. */
+#ifndef STAGE_H
+#define STAGE_H
+
+#include "trial.h"
+
+struct stage {
+    const char *name;
+    struct trial now;
+    struct pair pair;
+    unsigned failures;
+};
+
+/* Sets the stage: fresh, or in guest mode under some controls with zeros elsewhere. */
+void stage_fresh(struct stage *s);
+void stage_guest(struct stage *s, uint64_t controls);
+
+/* Changes the state before a step. */
+void stage_set_priority(struct stage *s, uint32_t vtpr, uint8_t svi);
+void stage_set_threshold(struct stage *s, uint32_t threshold);
+void stage_set_eoi_exit(struct stage *s, uint8_t vector);
+
+/* Carries out an event on both programs and hands their state on. */
+void stage_step(struct stage *s, struct gg_event event);
+
+/* What both programs have to show after the last step; numbers as document 01 has them. */
+void expect_answer(struct stage *s, uint32_t number, uint64_t first, uint64_t second);
+void expect_quiet(struct stage *s);
+void expect_word(struct stage *s, uint32_t offset, uint32_t value);
+void expect_rvi(struct stage *s, uint8_t rvi);
+void expect_svi(struct stage *s, uint8_t svi);
+void expect_recognised(struct stage *s, uint8_t recognised);
+void expect_mode(struct stage *s, uint8_t mode);
+void expect_true(struct stage *s, int truth, const char *what);
+
+/* Nothing but the named step's record may differ from a state kept earlier. */
+void expect_page(struct stage *s, const struct trial *kept);
+
+#endif

@@ -1,0 +1,124 @@
+/* Counts of kinds, answers, exits, refusals and checks. */
+#include "tally.h"
+
+#include "show.h"
+
+#include <inttypes.h>
+#include <stdio.h>
+
+#define COUNT(array) (sizeof(array) / sizeof((array)[0]))
+#define BIT(answer) (1u << (answer))
+
+static const unsigned exit_reasons[] = {
+    GG_EXIT_INTERRUPT_WINDOW, GG_EXIT_CONTROL_REGISTER, GG_EXIT_TPR_BELOW_THRESHOLD,
+    GG_EXIT_APIC_ACCESS,      GG_EXIT_VIRTUALIZED_EOI,  GG_EXIT_APIC_WRITE,
+};
+
+/* The answers that document 01 lets each kind have. */
+static const unsigned possible[KINDS] = {
+    [0] = BIT(GG_REFUSED),
+    [GG_ENTRY] = BIT(GG_REFUSED) | BIT(GG_VM_EXIT) | BIT(GG_QUIET),
+    [GG_MEMORY_READ] = BIT(GG_REFUSED) | BIT(GG_REDIRECTED) | BIT(GG_PASSTHROUGH) | BIT(GG_VM_EXIT),
+    [GG_MEMORY_WRITE] = BIT(GG_REFUSED) | BIT(GG_PASSTHROUGH) | BIT(GG_VM_EXIT) | BIT(GG_QUIET),
+    [GG_TO_CR8] = BIT(GG_REFUSED) | BIT(GG_PASSTHROUGH) | BIT(GG_VM_EXIT) | BIT(GG_QUIET),
+    [GG_FROM_CR8] = BIT(GG_REFUSED) | BIT(GG_REDIRECTED) | BIT(GG_PASSTHROUGH) | BIT(GG_VM_EXIT),
+    [GG_RDMSR] = BIT(GG_REFUSED) | BIT(GG_REDIRECTED) | BIT(GG_PASSTHROUGH),
+    [GG_WRMSR] = BIT(GG_REFUSED) | BIT(GG_PASSTHROUGH) | BIT(GG_FAULT) | BIT(GG_VM_EXIT) | BIT(GG_QUIET),
+    [GG_BOUNDARY] = BIT(GG_REFUSED) | BIT(GG_VM_EXIT) | BIT(GG_DELIVERED) | BIT(GG_QUIET),
+    [GG_REQUEST] = BIT(GG_REFUSED) | BIT(GG_QUIET),
+};
+
+void tally_add(struct tally *tally, const struct trial *before, const struct gg_answer *answer)
+{
+    unsigned kind = trial_event(before).kind;
+    kind = kind < KINDS ? kind : 0;
+    tally->steps++;
+    tally->kinds[kind]++;
+    tally->answers[answer->number % ANSWERS]++;
+    tally->cells[kind][answer->number % ANSWERS]++;
+    if (answer->number == GG_VM_EXIT)
+        tally->reasons[answer->first % REASONS]++;
+    if (answer->number == GG_REFUSED)
+        tally->refusals[answer->first % REFUSALS]++;
+    if (answer->number == GG_REFUSED && answer->first == GG_REFUSED_ENTRY_CHECK)
+        tally->checks[answer->second % CHECKS]++;
+}
+
+static void print_cells(const struct tally *tally)
+{
+    printf("kind by answer (- is impossible):\n  %-13s", "");
+    for (unsigned number = 0; number < ANSWERS; number++)
+        printf("%12s", show_answer(number));
+    for (unsigned kind = 0; kind < KINDS; kind++) {
+        printf("\n  %-13s", show_kind(kind));
+        for (unsigned number = 0; number < ANSWERS; number++)
+            if (possible[kind] & BIT(number))
+                printf("%12" PRIu64, tally->cells[kind][number]);
+            else
+                printf("%12s", "-");
+    }
+    printf("\n");
+}
+
+void tally_print(const struct tally *tally)
+{
+    printf("steps: %" PRIu64 "\nevent kinds:\n", tally->steps);
+    for (unsigned kind = 0; kind < KINDS; kind++)
+        printf("  %-24s %12" PRIu64 "\n", show_kind(kind), tally->kinds[kind]);
+    printf("answers:\n");
+    for (unsigned number = 0; number < ANSWERS; number++)
+        printf("  %-24s %12" PRIu64 "\n", show_answer(number), tally->answers[number]);
+    printf("exit reasons:\n");
+    for (size_t i = 0; i < COUNT(exit_reasons); i++)
+        printf("  %2u %-21s %12" PRIu64 "\n", exit_reasons[i], show_reason(exit_reasons[i]),
+               tally->reasons[exit_reasons[i]]);
+    printf("refusals:\n");
+    for (unsigned refusal = 1; refusal < REFUSALS; refusal++)
+        printf("  %-24u %12" PRIu64 "\n", refusal, tally->refusals[refusal]);
+    printf("entry checks:\n");
+    for (unsigned check = 1; check < CHECKS; check++)
+        printf("  %-24u %12" PRIu64 "\n", check, tally->checks[check]);
+    print_cells(tally);
+    printf("most vectors in service in a session: %u\n", tally->deepest);
+}
+
+static unsigned missing(uint64_t count, const char *table, const char *cell)
+{
+    if (count > 0)
+        return 0;
+    printf("never exercised: %s %s\n", table, cell);
+    return 1;
+}
+
+static unsigned missing_number(uint64_t count, const char *table, unsigned number)
+{
+    char cell[16];
+    snprintf(cell, sizeof cell, "%u", number);
+    return missing(count, table, cell);
+}
+
+static unsigned missing_cells(const struct tally *tally)
+{
+    unsigned found = 0;
+    for (unsigned kind = 0; kind < KINDS; kind++) {
+        found += missing(tally->kinds[kind], "event kind", show_kind(kind));
+        for (unsigned number = 0; number < ANSWERS; number++)
+            if (possible[kind] & BIT(number))
+                found += missing(tally->cells[kind][number], show_kind(kind), show_answer(number));
+    }
+    return found;
+}
+
+unsigned tally_missing(const struct tally *tally)
+{
+    unsigned found = missing_cells(tally);
+    for (unsigned number = 0; number < ANSWERS; number++)
+        found += missing(tally->answers[number], "answer", show_answer(number));
+    for (size_t i = 0; i < COUNT(exit_reasons); i++)
+        found += missing(tally->reasons[exit_reasons[i]], "exit", show_reason(exit_reasons[i]));
+    for (unsigned refusal = 1; refusal < REFUSALS; refusal++)
+        found += missing_number(tally->refusals[refusal], "refusal", refusal);
+    for (unsigned check = 1; check < CHECKS; check++)
+        found += missing_number(tally->checks[check], "entry check", check);
+    return found + missing(tally->deepest >= 10, "nesting of", "10 vectors or more");
+}

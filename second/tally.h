@@ -1,0 +1,26 @@
+/* Counts of what a run has exercised. */
+#ifndef TALLY_H
+#define TALLY_H
+
+#include "trial.h"
+
+enum { KINDS = 10, ANSWERS = 7, REASONS = 64, REFUSALS = 5, CHECKS = 5 };
+
+struct tally {
+    uint64_t steps;
+    uint64_t kinds[KINDS];
+    uint64_t answers[ANSWERS];
+    uint64_t reasons[REASONS];
+    uint64_t refusals[REFUSALS];
+    uint64_t checks[CHECKS];
+    uint64_t cells[KINDS][ANSWERS]; /* kind against answer */
+    unsigned deepest;               /* most vectors in service in a session */
+};
+
+void tally_add(struct tally *tally, const struct trial *before, const struct gg_answer *answer);
+void tally_print(const struct tally *tally);
+
+/* Prints a line for every cell that the run leaves at 0; returns their number. */
+unsigned tally_missing(const struct tally *tally);
+
+#endif

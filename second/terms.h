@@ -1,0 +1,29 @@
+/* Document 01's numbers: offsets, controls, kinds, answers. */
+#ifndef TERMS_H
+#define TERMS_H
+
+#include <stdbool.h>
+#include <stdint.h>
+
+enum { PAGE = 4096 };
+enum { VTPR = 0x080, VPPR = 0x0A0, VEOI = 0x0B0, VISR = 0x100, VIRR = 0x200 };
+enum { ICR_LOW = 0x300, ICR_HIGH = 0x310 };
+/* Control bit numbers, kinds and answers in document 01's order. */
+enum { SHADOW, ACCESSES, X2APIC, REGISTERS, DELIVERY, EXTERNAL, WINDOW, CR8_LOAD, CR8_STORE, CONTROLS };
+enum { ENTRY = 1, READ, WRITE, TO_CR8, FROM_CR8, RDMSR, WRMSR, BOUNDARY, REQUEST };
+enum { REFUSED, REDIRECTED, PASSTHROUGH, FAULTED, EXITED, DELIVERED, QUIET };
+enum { FETCH = 1, ALREADY = 2 };
+enum { MSR_TPR = 0x808, MSR_EOI = 0x80B, MSR_SELF_IPI = 0x83F };
+
+/* Whether a set of controls has one. */
+static inline bool in(uint64_t controls, unsigned bit)
+{
+    return controls >> bit & 1;
+}
+
+static inline unsigned class_of(uint64_t value)
+{
+    return value >> 4 & 15;
+}
+
+#endif

@@ -1,0 +1,138 @@
+/* Trials: building them, and running both programs on one. */
+#include "trial.h"
+
+#include "edge.h"
+
+#include <string.h>
+
+enum { GUARD_BYTE = 0xA5 };
+
+/* What an answer's numbers hold before a step, so that one left unwritten shows. */
+static const uint64_t UNWRITTEN = UINT64_C(0xA5A5A5A5A5A5A5A5);
+
+void trial_fresh(struct trial *t)
+{
+    memset(t, GUARD_BYTE, offsetof(struct trial, page_bytes));
+    memset(t->page_bytes, GUARD_BYTE, GUARD);
+    memset(t->page_bytes + GUARD, 0, GG_PAGE_LENGTH);
+    memset(t->page_bytes + GUARD + GG_PAGE_LENGTH, GUARD_BYTE, TAIL);
+    memset(t->record_bytes + GUARD, 0, GG_RECORD_LENGTH);
+    memset(t->event_bytes + GUARD, 0, GG_EVENT_LENGTH);
+    t->page_len = GG_PAGE_LENGTH;
+    t->record_len = GG_RECORD_LENGTH;
+    t->event_len = GG_EVENT_LENGTH;
+}
+
+void trial_set_page_length(struct trial *t, size_t page_len)
+{
+    t->page_len = page_len;
+    if (page_len > GG_PAGE_LENGTH)
+        memset(t->page_bytes + GUARD + GG_PAGE_LENGTH, GUARD_BYTE, PAGE_ROOM - GG_PAGE_LENGTH + TAIL);
+}
+
+size_t trial_page_used(const struct trial *t)
+{
+    return GUARD + (t->page_len > GG_PAGE_LENGTH ? PAGE_ROOM : GG_PAGE_LENGTH) + TAIL;
+}
+
+static size_t used(const struct trial *t)
+{
+    return offsetof(struct trial, page_bytes) + trial_page_used(t);
+}
+
+void trial_copy(struct trial *to, const struct trial *from)
+{
+    memcpy(to, from, used(from));
+}
+
+/* Compares by whole words, which an emulator runs faster than the library's own comparison. */
+bool trial_same(const struct trial *left, const struct trial *right)
+{
+    const unsigned char *a = (const unsigned char *)left, *b = (const unsigned char *)right;
+    uint64_t unequal = 0;
+    for (size_t at = 0; at < used(left); at += sizeof unequal) {
+        uint64_t one, other;
+        memcpy(&one, a + at, sizeof one);
+        memcpy(&other, b + at, sizeof other);
+        unequal |= one ^ other;
+    }
+    return unequal == 0;
+}
+
+_Static_assert(offsetof(struct trial, page_bytes) % 8 == 0 && (GUARD + GG_PAGE_LENGTH + TAIL) % 8 == 0,
+               "a trial is a whole number of words");
+
+struct gg_record trial_record(const struct trial *t)
+{
+    struct gg_record record;
+    memcpy(&record, t->record_bytes + GUARD, sizeof record);
+    return record;
+}
+
+struct gg_event trial_event(const struct trial *t)
+{
+    struct gg_event event;
+    memcpy(&event, t->event_bytes + GUARD, sizeof event);
+    return event;
+}
+
+void trial_set_record(struct trial *t, const struct gg_record *record)
+{
+    memcpy(t->record_bytes + GUARD, record, sizeof *record);
+}
+
+void trial_set_event(struct trial *t, const struct gg_event *event)
+{
+    memcpy(t->event_bytes + GUARD, event, sizeof *event);
+}
+
+void trial_put_vector(struct trial *t, uint32_t base, uint32_t vector, bool value)
+{
+    uint32_t at = base + 16 * (vector / 32);
+    uint32_t bit = UINT32_C(1) << vector % 32, word = gg_word(trial_page(t), at);
+    trial_put_word(t, at, value ? word | bit : word & ~bit);
+}
+
+void trial_put_word(struct trial *t, uint32_t offset, uint32_t value)
+{
+    memcpy(trial_page(t) + offset, &value, sizeof value);
+}
+
+unsigned trial_count(const struct trial *t, uint32_t base)
+{
+    unsigned count = 0;
+    for (uint32_t row = 0; row < 8; row++)
+        for (uint32_t word = gg_word(trial_page_of(t), base + 16 * row); word; word &= word - 1)
+            count++;
+    return count;
+}
+
+typedef uint32_t step_function(uint8_t *, size_t, uint8_t *, size_t, const uint8_t *, size_t, uint64_t *,
+                               uint64_t *);
+
+static void side_run(struct side *side, const struct trial *before, step_function *step)
+{
+    struct trial *t = &side->trial;
+    trial_copy(t, before);
+    side->answer.first = side->answer.second = UNWRITTEN;
+    side->answer.number = step(t->page_bytes + GUARD, t->page_len, t->record_bytes + GUARD, t->record_len,
+                               t->event_bytes + GUARD, t->event_len, &side->answer.first,
+                               &side->answer.second);
+}
+
+void pair_run(struct pair *pair, const struct trial *before)
+{
+    side_run(&pair->model, before, gg_step);
+    side_run(&pair->second, before, second_step);
+}
+
+bool answer_same(const struct gg_answer *left, const struct gg_answer *right)
+{
+    return left->number == right->number && left->first == right->first && left->second == right->second;
+}
+
+bool pair_same(const struct pair *pair)
+{
+    return answer_same(&pair->model.answer, &pair->second.answer) &&
+           trial_same(&pair->model.trial, &pair->second.trial);
+}

@@ -1,0 +1,73 @@
+/* One step's input, and the two programs run on equal copies of it. */
+#ifndef TRIAL_H
+#define TRIAL_H
+
+#include "garlandgrid.h"
+
+#include <stdbool.h>
+
+/* Guard bytes around a slice show a write outside it; the odd lead puts slices at odd addresses. */
+enum { GUARD = 33, TAIL = 31, PAGE_ROOM = 8192, SMALL_ROOM = 64 };
+
+/* Page, record and event bytes with the lengths that are handed over; the page stands last. */
+struct trial {
+    size_t page_len, record_len, event_len;
+    uint8_t record_bytes[GUARD + SMALL_ROOM + TAIL];
+    uint8_t event_bytes[GUARD + SMALL_ROOM + TAIL];
+    uint8_t page_bytes[GUARD + PAGE_ROOM + TAIL];
+};
+
+/* One program's copy after the step, with its answer. */
+struct side {
+    struct trial trial;
+    struct gg_answer answer;
+};
+
+struct pair {
+    struct side model, second;
+};
+
+static inline uint8_t *trial_page(struct trial *t)
+{
+    return t->page_bytes + GUARD;
+}
+
+static inline const uint8_t *trial_page_of(const struct trial *t)
+{
+    return t->page_bytes + GUARD;
+}
+
+/* Fresh: lengths as they should be, a zero page, a zero record, no event. */
+void trial_fresh(struct trial *t);
+
+/* Gives the page another length; bytes past the usual ones are guard bytes. */
+void trial_set_page_length(struct trial *t, size_t page_len);
+
+/* The bytes of page_bytes that are in use, guards included. */
+size_t trial_page_used(const struct trial *t);
+
+/* Copies and compares what is in use, which leaves half of the room alone for most pages. */
+void trial_copy(struct trial *to, const struct trial *from);
+bool trial_same(const struct trial *left, const struct trial *right);
+
+struct gg_record trial_record(const struct trial *t);
+struct gg_event trial_event(const struct trial *t);
+void trial_set_record(struct trial *t, const struct gg_record *record);
+void trial_set_event(struct trial *t, const struct gg_event *event);
+
+/* Sets or clears a vector in VISR or VIRR. */
+void trial_put_vector(struct trial *t, uint32_t base, uint32_t vector, bool value);
+void trial_put_word(struct trial *t, uint32_t offset, uint32_t value);
+
+/* The number of vectors set in VISR or VIRR. */
+unsigned trial_count(const struct trial *t, uint32_t base);
+
+/* Runs both programs on copies of a trial. */
+void pair_run(struct pair *pair, const struct trial *before);
+
+bool answer_same(const struct gg_answer *left, const struct gg_answer *right);
+
+/* Whether answer, record, page, event and guard bytes agree. */
+bool pair_same(const struct pair *pair);
+
+#endif
