@@ -59,13 +59,34 @@ pub fn word_at(page: &[u8], offset: u32) -> u32
     part_word(page, offset as u64)
 }
 
-pub fn long_at(page: &[u8], offset: u16) -> u64
+// Eight bytes that the slice has.
+fn whole_long(page: &[u8], at: usize) -> u64
+    requires { ⌜ at + 8 ≤ length (now page) ⌝ }
+    ensures { λ r. ⌜ r ≡ longAt (now (page .entry)) at ⌝ }
+{
+    let low = whole_word(page, at) as u64;
+    let high = whole_word(page, at + 4) as u64;
+    low + 0x1_0000_0000 * high
+}
+
+// Eight bytes some of which may lie past the end.
+fn part_long(page: &[u8], offset: u16) -> u64
     ensures { λ r. ⌜ r ≡ longAt (now (page .entry)) offset ⌝ }
 {
     let at = offset as u32;
     let low = word_at(page, at) as u64;
     let high = word_at(page, at + 4) as u64;
     low + 0x1_0000_0000 * high
+}
+
+pub fn long_at(page: &[u8], offset: u16) -> u64
+    ensures { λ r. ⌜ r ≡ longAt (now (page .entry)) offset ⌝ }
+{
+    let at = offset as usize;
+    if at + 8 <= page.len() {
+        return whole_long(page, at);
+    }
+    part_long(page, offset)
 }
 
 // The bytes of a read, by its size.
@@ -134,12 +155,33 @@ pub fn set_word(page: &mut [u8], offset: u32, value: u32)
     set_part_word(page, offset as u64, value);
 }
 
-pub fn set_long(page: &mut [u8], offset: u16, value: u64)
+// Eight bytes that the slice has.
+fn set_whole_long(page: &mut [u8], at: usize, value: u64)
+    requires { ⌜ at + 8 ≤ length (now page) ⌝ }
+    ensures { λ _. ⌜ now (page .exit) ≡ setLong (now (page .entry)) at value ⌝ }
+{
+    set_whole_word(page, at, (value % 0x1_0000_0000) as u32);
+    set_whole_word(page, at + 4, (value / 0x1_0000_0000) as u32);
+}
+
+// Eight bytes some of which may lie past the end.
+fn set_part_long(page: &mut [u8], offset: u16, value: u64)
     ensures { λ _. ⌜ now (page .exit) ≡ setLong (now (page .entry)) offset value ⌝ }
 {
     let at = offset as u32;
     set_word(page, at, (value % 0x1_0000_0000) as u32);
     set_word(page, at + 4, (value / 0x1_0000_0000) as u32);
+}
+
+pub fn set_long(page: &mut [u8], offset: u16, value: u64)
+    ensures { λ _. ⌜ now (page .exit) ≡ setLong (now (page .entry)) offset value ⌝ }
+{
+    let at = offset as usize;
+    if at + 8 <= page.len() {
+        set_whole_long(page, at, value);
+        return;
+    }
+    set_part_long(page, offset, value);
 }
 
 // The bytes of a write, by its size.

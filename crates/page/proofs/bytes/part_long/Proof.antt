@@ -1,8 +1,8 @@
--- `page::bytes::long_at` meets its contract: code and definition take the same cases. Assumes nothing.
+-- `page::bytes::part_long` meets its contract: code and definition take the same cases. Assumes nothing.
 use Rattle.page.specs.Page.{longAt}
 use borrow.Author.Needs.{needs}
-use Rattle.page.proofs.bytes.long_at.Statement.{statement}
-use Rattle.page.proofs.bytes.long_at.Tie as tie
+use Rattle.page.proofs.bytes.part_long.Statement.{statement}
+use Rattle.page.proofs.bytes.part_long.Tie as tie
 
 word-at-requires : tie.Need-word-at-requires
 word-at-requires c κs = tt
@@ -29,8 +29,8 @@ returns : tie.Need-returns
 unfolding longAt
 returns c = simp (← (c .before .word-at .ensures), ← (c .word-at2 .ensures))
 
-pub long-at-spec : {M : Type 1} → statement M
-long-at-spec =
+pub part-long-spec : {M : Type 1} → statement M
+part-long-spec =
     tie.close
     (tie.spec
     word-at-requires

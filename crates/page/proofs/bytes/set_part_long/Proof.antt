@@ -1,8 +1,8 @@
--- `page::bytes::set_long` meets its contract: code and definition take the same cases. Assumes nothing.
+-- `page::bytes::set_part_long` meets its contract: code and definition take the same cases. Assumes nothing.
 use Rattle.page.specs.Page.{setLong}
 use borrow.Author.Needs.{needs}
-use Rattle.page.proofs.bytes.set_long.Statement.{statement}
-use Rattle.page.proofs.bytes.set_long.Tie as tie
+use Rattle.page.proofs.bytes.set_part_long.Statement.{statement}
+use Rattle.page.proofs.bytes.set_part_long.Tie as tie
 
 cast-set-word : tie.Need-cast-set-word
 cast-set-word c = search needs
@@ -26,8 +26,8 @@ returns : tie.Need-returns
 unfolding setLong
 returns c = simp ((c .before .before .set-word2 .ensures), (c .before .before .before .before .before .before .set-word .ensures))
 
-pub set-long-spec : {M : Type 1} → statement M
-set-long-spec =
+pub set-part-long-spec : {M : Type 1} → statement M
+set-part-long-spec =
     tie.close
     (tie.spec
     cast-set-word
