@@ -7,6 +7,7 @@ use lib.Dec.{ltb}
 use borrow.Author.Tests.{ltb-true, not-false}
 use Rattle.rules.specs.Events.{eventInBounds, inBounds}
 use Rattle.rules.specs.Controls.{flagsInBounds}
+use Rattle.rules.proofs.Tests.{right}
 use Rattle.rules.specs.declared.controls.Record.{Record}
 use Rattle.rules.specs.declared.event.Event.{Event}
 use Rattle.rules.specs.declared.event.Event.the-variants.{Request}
@@ -19,11 +20,6 @@ byte-vector e v q t = small (ltb-true v 256 (sym (ap eventInBounds q) ∙ t))
     small : v < 256 → v % 256 ≡ v
     small h = omega arith
 
-second : (a b : Bool) → (a && b) ≡ true → b ≡ true
-second true b t = t
-second false true t = refl
-second false false t = t
-
 -- what was not refused by refusal 2 has an event within its bounds
 pub event-within : (r : Record) (e : Event) (b : Bool) → b ≡ inBounds r e → not b ≡ false → eventInBounds e ≡ true
-event-within r e b q n = second (flagsInBounds (r .controls)) (eventInBounds e) (sym q ∙ not-false b n)
+event-within r e b q n = right (flagsInBounds (r .controls)) (eventInBounds e) (sym q ∙ not-false b n)

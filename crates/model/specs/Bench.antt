@@ -82,7 +82,7 @@ rowsHold (row ∷ rows) = rowHolds row && rowsHold rows
 abbrev word : ℕ → ℕ → Word
 word at value = record { at = at; value = value }
 
-abbrev controls : ℕ → ℕ → Controls
+abbrev pub controls : ℕ → ℕ → Controls
 controls flags threshold =
     record { flags = flags; threshold = threshold; «eoi_exit_0» = 0; «eoi_exit_1» = 0; «eoi_exit_2» = 0; «eoi_exit_3» = 0 }
 
@@ -113,7 +113,7 @@ delivered vector = numbers 5 vector 0
 abbrev exit : ℕ → ℕ → Numbers
 exit reason qualification = numbers 4 reason qualification
 
-abbrev openBoundary : Event
+abbrev pub openBoundary : Event
 openBoundary = Boundary true false false 0
 
 -- K1's events under some controls, and their answers

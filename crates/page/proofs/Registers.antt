@@ -12,8 +12,8 @@ use borrow.Author.Tests.{eqb-true, eqb-false, eq-eqb, ne-eqb}
 use Rattle.rules.specs.Logic.{if_then_else_, bit, allBelow}
 use Rattle.rules.specs.Procedures.{larger}
 use Rattle.rules.proofs.Tests.{below, same, and-left, and-right}
-use Rattle.page.specs.Page.{vectorByte, putBit, byteAt, setByte, isSet, putVector, setVector, highestBelow, highest}
-use Rattle.page.proofs.Top.{put, highest-top, top-ext, top-raise, top-fewer, top-below}
+use Rattle.page.specs.Page.{vectorByte, putBit, byteAt, setByte, isSet, put, putVector, setVector, highestBelow, highest}
+use Rattle.page.proofs.Top.{highest-top, top-ext, top-raise, top-fewer, top-below}
 
 -- one bit of a byte changed, read at each bit: on and off, computed at every byte and pair of bits
 abbrev bit-test : ℕ → ℕ → ℕ → Bool

@@ -9,7 +9,7 @@ use lib.Dec.{eqb, ltb}
 use borrow.Author.Tests.{eqb-true, eqb-false, ltb-true, ltb-false}
 use Rattle.rules.specs.Logic.{if_then_else_}
 use Rattle.rules.specs.Procedures.{larger}
-use Rattle.page.specs.Page.{isSet, highestBelow, highest}
+use Rattle.page.specs.Page.{isSet, put, highestBelow, highest}
 
 -- the highest set place below n, 0 where there is none
 abbrev pub top : (ℕ → Bool) → ℕ → ℕ
@@ -82,10 +82,6 @@ top-unique f n t h s m = go (ltb 0 (top f n)) refl (top-least f n t h s)
 pub top-none : (f : ℕ → Bool) (n : ℕ) → ((w : ℕ) → w < n → f w ≡ false) → top f n ≡ 0
 top-none f zero h = refl
 top-none f (suc v) h = simp (h v (le-refl (suc v))) (top-none f v (λ w l. h w (omega arith)))
-
--- the row with one bit on, or off
-abbrev pub put : (ℕ → Bool) → ℕ → Bool → ℕ → Bool
-put f v on w = if eqb v w then on else f w
 
 -- setting a bit: the larger of the top and the bit's place
 pub top-raise : (f : ℕ → Bool) (n v : ℕ) → v < n → top (put f v true) n ≡ larger (top f n) v

@@ -100,6 +100,10 @@ setVector p base v = putVector p base v true
 abbrev pub clearVector : List ℕ → ℕ → ℕ → List ℕ
 clearVector p base v = putVector p base v false
 
+-- a row of bits with one bit on, or off
+abbrev pub put : (ℕ → Bool) → ℕ → Bool → ℕ → Bool
+put f v on w = if eqb v w then on else f w
+
 -- the highest set vector below n; of an empty register it counts as 0
 unfoldable pub highestBelow : List ℕ → ℕ → ℕ → ℕ
 highestBelow p base zero = 0

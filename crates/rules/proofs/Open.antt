@@ -11,7 +11,7 @@ use borrow.Author.Tests.{le-ltb, ne-eqb}
 use Rattle.rules.specs.Logic.{any, allBelow}
 use Rattle.rules.specs.Memory.{openTpr, openDelivery, openRead, openWrite, inRegister, inRegisters, readRegisters, writeRegisters}
 use Rattle.rules.specs.Marks.{Marked, markedFirst, markedByte, markedTest, carriesRule}
-use Rattle.rules.proofs.Tests.{below, same, and-left, and-right}
+use Rattle.rules.proofs.Tests.{below, same, and-left, and-right, never}
 
 -- what the test says at one offset
 marked : (offset marks : ℕ) → T (markedTest offset marks) → Marked offset marks
@@ -39,22 +39,14 @@ past-all limit [] t o h = refl
 past-all limit (r ∷ rs) t o h =
     simp (outside r o (leb→le (r + 4) limit (and-left (leb (r + 4) limit) (ends limit rs) t)) h) (past-all limit rs (and-right (leb (r + 4) limit) (ends limit rs) t) o h)
   where
-    none : (b : Bool) → (b && false) ≡ false
-    none true = refl
-    none false = refl
-
     outside : (r o : ℕ) → r + 4 ≤ limit → limit ≤ o → inRegister o r ≡ false
-    outside r o p q = simp (le-ltb o (r + 4) (omega arith)) (none (leb r o))
+    outside r o p q = simp (le-ltb o (r + 4) (omega arith)) (never (leb r o))
 
 -- past the table nothing is open
 pub past : (offset : ℕ) → 1024 ≤ offset → Marked offset 0
 past o h = record {
-  tpr = simp (ne-eqb o 0x080 (omega arith)) (none (eqb (o % 16) 0));
-  delivery = simp (ne-eqb o 0x080 (omega arith), ne-eqb o 0x0b0 (omega arith), ne-eqb o 0x300 (omega arith)) (none (eqb (o % 16) 0));
-  read = none (ltb (o % 16) 4) ∙ sym (past-all 1024 readRegisters tt o h);
-  write = none (ltb (o % 16) 4) ∙ sym (past-all 1024 writeRegisters tt o h);
+  tpr = simp (ne-eqb o 0x080 (omega arith)) (never (eqb (o % 16) 0));
+  delivery = simp (ne-eqb o 0x080 (omega arith), ne-eqb o 0x0b0 (omega arith), ne-eqb o 0x300 (omega arith)) (never (eqb (o % 16) 0));
+  read = never (ltb (o % 16) 4) ∙ sym (past-all 1024 readRegisters tt o h);
+  write = never (ltb (o % 16) 4) ∙ sym (past-all 1024 writeRegisters tt o h);
 }
-  where
-    none : (b : Bool) → (b && false) ≡ false
-    none true = refl
-    none false = refl

@@ -3,7 +3,7 @@ use Prim.Native.Nat.{ℕ, zero, suc, _<_}
 use native.Mathlib.Nat.{not-suc-le-zero}
 use native.Mathlib.Omega.{arith}
 use mathlib.Core.Path.{_≡_, refl, subst, sym}
-use mathlib.Core.Bool.{Bool, true, false, _&&_, Bool·beq}
+use mathlib.Core.Bool.{Bool, true, false, _&&_, _||_, Bool·beq, true≢false, false≢true}
 use lib.Dec.{T, eqb}
 use borrow.Author.Tests.{eqb-true, eqb-false}
 use Rattle.rules.specs.Logic.{allBelow}
@@ -36,3 +36,24 @@ same true true t = refl
 same true false t = absurd t
 same false true t = absurd t
 same false false t = refl
+
+-- what a conjunction, a disjunction or a negation tells of its parts
+pub left : (a b : Bool) → (a && b) ≡ true → a ≡ true
+left true b e = refl
+left false b e = e
+
+pub right : (a b : Bool) → (a && b) ≡ true → b ≡ true
+right true b e = e
+right false b e = absurd (false≢true e)
+
+pub none-left : (a b : Bool) → (a || b) ≡ false → a ≡ false
+none-left true b e = e
+none-left false b e = refl
+
+pub none-right : (a b : Bool) → (a || b) ≡ false → b ≡ false
+none-right true b e = absurd (true≢false e)
+none-right false b e = e
+
+pub never : (b : Bool) → (b && false) ≡ false
+never true = refl
+never false = refl

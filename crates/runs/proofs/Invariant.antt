@@ -12,13 +12,13 @@ use Rattle.rules.specs.Controls.{interruptWindowExiting, fresh}
 use Rattle.rules.specs.Procedures.{class, evaluated, larger}
 use Rattle.rules.specs.declared.controls.Record.{Record}
 use Rattle.rules.specs.declared.event.Event.{Event}
-use Rattle.rules.proofs.Tests.{below}
-use Rattle.page.specs.Page.{vppr, visr, virr, byteAt, isSet, highestBelow, highest, IsPage}
+use Rattle.rules.proofs.Tests.{below, right}
+use Rattle.page.specs.Page.{vppr, visr, virr, byteAt, isSet, highestBelow, highest, IsPage, put}
 use Rattle.page.proofs.Top.{top, highest-top, top-ext, top-raise}
 use Rattle.page.proofs.Registers.{highest-ext, highest-byte}
 use Rattle.model.specs.After.{After}
 use Rattle.model.specs.Run.{zeroPage}
-use Rattle.runs.specs.Moves.{Move, stays, raises, delivers, retires, moveOf, put, Moved, Deliverable}
+use Rattle.runs.specs.Moves.{Move, stays, raises, delivers, retires, moveOf, Moved, Deliverable}
 use Rattle.runs.specs.Settled.{ByteRecord, Settled}
 use Rattle.runs.specs.History.{deliveryOn, AllOn, none, more, Held, start, stepOf, heldAfter, after, answers, served, inService, member, rest}
 use Rattle.runs.proofs.Laws.{laws, moves, settles}
@@ -50,10 +50,6 @@ svi-front vs h i = i .svi ∙ highest-top (h .page) visr 256 ∙ ladder-top (isS
 pub above : (vs : List ℕ) (h : Held) → Inv vs h → h .state .guest ≡ true → h .state .recognised ≡ true → class (front vs) < class (h .state .rvi)
 above vs h i t r = over (i .settled .priority t) (ltb-true (class (byteAt (h .page) vppr)) (class (h .state .rvi)) exceeds)
   where
-    right : (a b : Bool) → (a && b) ≡ true → b ≡ true
-    right true b e = e
-    right false b e = absurd (false≢true e)
-
     exceeds : ltb (class (byteAt (h .page) vppr)) (class (h .state .rvi)) ≡ true
     exceeds = right (not (interruptWindowExiting (h .state .controls))) _ (sym (i .settled .recognised ∙ simp t) ∙ r)
 

@@ -6,10 +6,11 @@ use mathlib.Core.Path.{_≡_, refl, sym, _∙_, ap, subst}
 use mathlib.Core.Bool.{Bool, true, false, not, _&&_, _||_, true≢false}
 use mathlib.Core.Logic.{_⊎_, inl, inr, ⊎-elim}
 use mathlib.Core.List.{List}
-use lib.Dec.{T, eqb, leb, ltb}
+use lib.Dec.{T, eqb, leb, ltb, lit<, lit≤}
 use lib.ListN.{length, getD, set, length-set}
 use lib.Seq.{getD-set-same, getD-set-other, set-out}
 use borrow.Author.Tests.{eqb-true, eqb-false, ltb-true, ltb-false, leb-true}
+use Rattle.rules.proofs.Tests.{left, right}
 use Rattle.page.specs.Page.{vppr, visr, virr, byteAt, setByte, setHalf, setWord, setLong, vectorByte, isSet, IsPage}
 use Rattle.page.proofs.Registers.{isSet-other, vector-within}
 
@@ -56,17 +57,9 @@ either false b e = inr e
 apart-is : (i : ℕ) → apart i ≡ true → (i < 0x100) ⊎ (0x280 ≤ i)
 apart-is i e = ⊎-elim (λ t. inl (ltb-true i 0x100 t)) (λ t. inr (leb-true 0x280 i t)) (either (ltb i 0x100) (leb 0x280 i) e)
 
-apart-visr : (i w : ℕ) → apart i ≡ true → w < 256 → 0x100 + vectorByte w ≡ i → ⊥
-apart-visr i w e h q = ⊎-elim (λ l. low (vector-within w h) l) (λ l. high (vector-within w h) l) (apart-is i e)
-  where
-    low : vectorByte w < 0x80 → i < 0x100 → ⊥
-    low a b = omega arith
-
-    high : vectorByte w < 0x80 → 0x280 ≤ i → ⊥
-    high a b = omega arith
-
-apart-virr : (i w : ℕ) → apart i ≡ true → w < 256 → 0x200 + vectorByte w ≡ i → ⊥
-apart-virr i w e h q = ⊎-elim (λ l. low (vector-within w h) l) (λ l. high (vector-within w h) l) (apart-is i e)
+-- so it is no byte of a register that lies between 100 and 280
+apart-register : (base i w : ℕ) → 0x100 ≤ base → base ≤ 0x200 → apart i ≡ true → w < 256 → base + vectorByte w ≡ i → ⊥
+apart-register base i w l m e h q = ⊎-elim (λ a. low (vector-within w h) a) (λ a. high (vector-within w h) a) (apart-is i e)
   where
     low : vectorByte w < 0x80 → i < 0x100 → ⊥
     low a b = omega arith
@@ -77,29 +70,21 @@ apart-virr i w e h q = ⊎-elim (λ l. low (vector-within w h) l) (λ l. high (v
 pub same-set : (p q : List ℕ) (i x : ℕ) → Same p q → apart i ≡ true → x < 256 → Same p (setByte q i x)
 same-set p q i x s e hx = record {
   isPage = page-set q i x (s .isPage) hx;
-  request = λ w h. isSet-other q virr i x w (apart-virr i w e h) ∙ s .request w h;
-  service = λ w h. isSet-other q visr i x w (apart-visr i w e h) ∙ s .service w h;
+  request = λ w h. isSet-other q virr i x w (apart-register virr i w (lit≤ tt) (lit≤ tt) e h) ∙ s .request w h;
+  service = λ w h. isSet-other q visr i x w (apart-register visr i w (lit≤ tt) (lit≤ tt) e h) ∙ s .service w h;
 }
 
 -- apart from both registers and from VPPR
 abbrev pub free : ℕ → Bool
 free i = not (eqb i 0x0a0) && apart i
 
-first : (a b : Bool) → (a && b) ≡ true → a ≡ true
-first true b e = refl
-first false b e = e
-
-second : (a b : Bool) → (a && b) ≡ true → b ≡ true
-second true b e = e
-second false b e = absurd (true≢false (sym e))
-
 other : (i : ℕ) → not (eqb i 0x0a0) ≡ true → 0x0a0 ≡ i → ⊥
 other i e q = true≢false (sym e ∙ ap (λ x. not (eqb x 0x0a0)) (sym q))
 
 pub kept-set : (p q : List ℕ) (i x : ℕ) → Kept p q → free i ≡ true → x < 256 → Kept p (setByte q i x)
 kept-set p q i x k e hx = record {
-  same = same-set p q i x (k .same) (second (not (eqb i 0x0a0)) (apart i) e) hx;
-  vppr = getD-set-other q i vppr x 0 (other i (first (not (eqb i 0x0a0)) (apart i) e)) ∙ k .vppr;
+  same = same-set p q i x (k .same) (right (not (eqb i 0x0a0)) (apart i) e) hx;
+  vppr = getD-set-other q i vppr x 0 (other i (left (not (eqb i 0x0a0)) (apart i) e)) ∙ k .vppr;
 }
 
 byte-of : (x : ℕ) → x % 0x100 < 256
@@ -127,9 +112,9 @@ same-vppr p q x s =
 pub vppr-stored : (q : List ℕ) (x : ℕ) → IsPage q → byteAt (setWord q vppr x) vppr ≡ x % 0x100
 unfolding setWord
 vppr-stored q x g =
-    getD-set-other (set (set (set q 0x0a0 (x % 0x100)) 0x0a1 (x / 0x100 % 0x100)) 0x0a2 (x / 0x1_0000 % 0x100)) 0x0a3 0x0a0 (x / 0x100_0000 % 0x100) 0 (ne 0x0a3 (lib.Dec.lit< tt))
-    ∙ getD-set-other (set (set q 0x0a0 (x % 0x100)) 0x0a1 (x / 0x100 % 0x100)) 0x0a2 0x0a0 (x / 0x1_0000 % 0x100) 0 (ne 0x0a2 (lib.Dec.lit< tt))
-    ∙ getD-set-other (set q 0x0a0 (x % 0x100)) 0x0a1 0x0a0 (x / 0x100 % 0x100) 0 (ne 0x0a1 (lib.Dec.lit< tt))
+    getD-set-other (set (set (set q 0x0a0 (x % 0x100)) 0x0a1 (x / 0x100 % 0x100)) 0x0a2 (x / 0x1_0000 % 0x100)) 0x0a3 0x0a0 (x / 0x100_0000 % 0x100) 0 (ne 0x0a3 (lit< tt))
+    ∙ getD-set-other (set (set q 0x0a0 (x % 0x100)) 0x0a1 (x / 0x100 % 0x100)) 0x0a2 0x0a0 (x / 0x1_0000 % 0x100) 0 (ne 0x0a2 (lit< tt))
+    ∙ getD-set-other (set q 0x0a0 (x % 0x100)) 0x0a1 0x0a0 (x / 0x100 % 0x100) 0 (ne 0x0a1 (lit< tt))
     ∙ getD-set-same q 0x0a0 (x % 0x100) 0 (inside (g .size))
   where
     ne : (n : ℕ) → 0x0a0 < n → 0x0a0 ≡ n → ⊥

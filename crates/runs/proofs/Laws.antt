@@ -17,6 +17,7 @@ use Rattle.rules.specs.Entry.{failingCheck, exitsAtEntry}
 use Rattle.rules.specs.Memory.{openOffset, pastRegister, accessExits, memoryAccess, readQualification, writeQualification, selfIpi, inRegister, writeFollowing}
 use Rattle.rules.specs.Cr8Msr.{toCr8, fromCr8, toCr8Qualification, fromCr8Qualification, rdmsrRedirected, msrOffset, wrmsrHandled, wrmsrFaults, wrmsrFollowing, wrmsr}
 use Rattle.rules.specs.Procedures.{openBoundary}
+use Rattle.rules.proofs.Tests.{left, right, none-left, none-right}
 use Rattle.rules.specs.declared.controls.Controls.{Controls}
 use Rattle.rules.specs.declared.controls.Record.{Record}
 use Rattle.rules.specs.declared.event.Event.{Event}
@@ -43,22 +44,6 @@ use Rattle.runs.proofs.Stores.{kept-store}
 use Rattle.runs.proofs.Leaves.{Good, good-same, good-exit, good-quiet, good-tpr, good-eoi, good-self-ipi, good-request, good-entered, good-delivery}
 
 -- ---- booleans
-left : (a b : Bool) → (a && b) ≡ true → a ≡ true
-left true b e = refl
-left false b e = e
-
-right : (a b : Bool) → (a && b) ≡ true → b ≡ true
-right true b e = e
-right false b e = absurd (false≢true e)
-
-none-left : (a b : Bool) → (a || b) ≡ false → a ≡ false
-none-left true b e = e
-none-left false b e = refl
-
-none-right : (a b : Bool) → (a || b) ≡ false → b ≡ false
-none-right true b e = absurd (true≢false e)
-none-right false b e = e
-
 not-not : (a : Bool) → not a ≡ false → a ≡ true
 not-not true e = refl
 not-not false e = sym e
@@ -112,41 +97,36 @@ kept-long : (p q : List ℕ) (i x : ℕ) → Kept p q → free i ≡ true → fr
 unfolding setLong
 kept-long p q i x k e₀ e₁ e₂ e₃ e₄ e₅ e₆ e₇ = kept-word p _ (i + 4) _ (kept-word p q i _ k e₀ e₁ e₂ e₃) e₄ e₅ e₆ e₇
 
+-- VICR_LO lies on the page, its other bytes elsewhere, and cutting a value to its size keeps its low byte
+inside : (p : List ℕ) → IsPage p → 0x300 < length p
+inside p g = from (g .size)
+  where
+    from : length p ≡ 4096 → 0x300 < length p
+    from e = omega arith
+
+ne : (n : ℕ) → 0x300 < n → 0x300 ≡ n → ⊥
+ne n l e = omega arith
+
+narrow₂ : (x : ℕ) → x % 0x1_0000 % 0x100 ≡ x % 0x100
+narrow₂ x = omega arith
+
+narrow₄ : (x : ℕ) → x % 0x1_0000_0000 % 0x100 ≡ x % 0x100
+narrow₄ x = omega arith
+
 -- VICR_LO's low byte after a store at 300 is the value's
 low-stored : (p : List ℕ) (size value : ℕ) → IsPage p → (a b d : Bool) → eqb size 1 ≡ a → eqb size 2 ≡ b → eqb size 4 ≡ d → (a || b || d) ≡ true → byteAt (storeAt p 0x300 size value) 0x300 ≡ value % 0x100
 unfolding storeAt setHalf setWord
-low-stored p size value g true b d e₁ e₂ e₄ s = simp e₁ (getD-set-same p 0x300 (value % 0x100) 0 (inside (g .size)))
-  where
-    inside : length p ≡ 4096 → 0x300 < length p
-    inside e = omega arith
+low-stored p size value g true b d e₁ e₂ e₄ s = simp e₁ (getD-set-same p 0x300 (value % 0x100) 0 (inside p g))
 low-stored p size value g false true d e₁ e₂ e₄ s =
     simp (e₁, e₂)
     (getD-set-other (set p 0x300 (value % 0x1_0000 % 0x100)) 0x301 0x300 _ 0 (ne 0x301 (lit< tt))
-    ∙ getD-set-same p 0x300 (value % 0x1_0000 % 0x100) 0 (inside (g .size)) ∙ narrow value)
-  where
-    inside : length p ≡ 4096 → 0x300 < length p
-    inside e = omega arith
-
-    ne : (n : ℕ) → 0x300 < n → 0x300 ≡ n → ⊥
-    ne n l e = omega arith
-
-    narrow : (x : ℕ) → x % 0x1_0000 % 0x100 ≡ x % 0x100
-    narrow x = omega arith
+    ∙ getD-set-same p 0x300 (value % 0x1_0000 % 0x100) 0 (inside p g) ∙ narrow₂ value)
 low-stored p size value g false false true e₁ e₂ e₄ s =
     simp (e₁, e₂, e₄)
     (getD-set-other (set (set (set p 0x300 (value % 0x1_0000_0000 % 0x100)) 0x301 _) 0x302 _) 0x303 0x300 _ 0 (ne 0x303 (lit< tt))
     ∙ getD-set-other (set (set p 0x300 (value % 0x1_0000_0000 % 0x100)) 0x301 _) 0x302 0x300 _ 0 (ne 0x302 (lit< tt))
     ∙ getD-set-other (set p 0x300 (value % 0x1_0000_0000 % 0x100)) 0x301 0x300 _ 0 (ne 0x301 (lit< tt))
-    ∙ getD-set-same p 0x300 (value % 0x1_0000_0000 % 0x100) 0 (inside (g .size)) ∙ narrow value)
-  where
-    inside : length p ≡ 4096 → 0x300 < length p
-    inside e = omega arith
-
-    ne : (n : ℕ) → 0x300 < n → 0x300 ≡ n → ⊥
-    ne n l e = omega arith
-
-    narrow : (x : ℕ) → x % 0x1_0000_0000 % 0x100 ≡ x % 0x100
-    narrow x = omega arith
+    ∙ getD-set-same p 0x300 (value % 0x1_0000_0000 % 0x100) 0 (inside p g) ∙ narrow₄ value)
 low-stored p size value g false false false e₁ e₂ e₄ s = absurd (false≢true s)
 
 -- ---- a write to memory

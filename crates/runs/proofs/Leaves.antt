@@ -14,13 +14,14 @@ use Rattle.rules.specs.Procedures.{class, lowCleared, ppr, belowThreshold, eval
 use Rattle.rules.specs.declared.controls.Controls.{Controls}
 use Rattle.rules.specs.declared.controls.Record.{Record}
 use Rattle.rules.specs.declared.event.Event.{Event}
-use Rattle.page.specs.Page.{vtpr, vppr, visr, virr, byteAt, isSet, setWord, putVector, setVector, clearVector, highest, IsPage}
+use Rattle.rules.proofs.Tests.{never}
+use Rattle.page.specs.Page.{vtpr, vppr, visr, virr, byteAt, isSet, setWord, putVector, setVector, clearVector, highest, IsPage, put}
 use Rattle.page.proofs.Registers.{highest-ext, highest-fewer, highest-byte}
 use Rattle.model.specs.After.{After, exit, quiet, delivered}
 use Rattle.model.specs.Procedures.{pprVirtualization, evaluation, evaluatedQuiet, tprVirtualization, retiredPage, retiredRecord, eoiEnd, eoiVirtualization, requestedPage, requestedRecord, selfIpiVirtualization}
 use Rattle.model.specs.Entry.{entered, request}
 use Rattle.model.specs.Boundary.{deliveredPage, deliveredRecord, delivery}
-use Rattle.runs.specs.Moves.{Move, stays, raises, delivers, retires, isDelivered, isQuietOr45, moveOf, put, Moved}
+use Rattle.runs.specs.Moves.{Move, stays, raises, delivers, retires, isDelivered, isQuietOr45, moveOf, Moved}
 use Rattle.runs.specs.Settled.{ByteRecord, Settled}
 use Rattle.runs.specs.History.{deliveryOn}
 use Rattle.runs.proofs.Kept.{Same, Kept, same-refl, kept-refl, same-vppr, vppr-stored}
@@ -283,14 +284,10 @@ module _ (p : List ℕ) (r : Record) (e : Event) (g : IsPage p) (b : ByteRecord 
     };
   }
     where
-      nothing : (x : Bool) → (x && false) ≡ false
-      nothing true = refl
-      nothing false = refl
-
       not-above : (n u : ℕ) → u < 256 → n ≤ u → class n ≤ class (lowCleared u % 0x100)
       not-above n u h l = omega arith
 
       unrecognised : highest (deliveredPage p (r .rvi)) virr ≤ r .rvi → evaluated (r .controls) (highest (deliveredPage p (r .rvi)) virr) (byteAt (deliveredPage p (r .rvi)) vppr) ≡ false
       unrecognised l =
           simp (delivered-vppr p (r .rvi) g (b .rvi), le-ltb (class (lowCleared (r .rvi) % 0x100)) (class (highest (deliveredPage p (r .rvi)) virr)) (not-above (highest (deliveredPage p (r .rvi)) virr) (r .rvi) (b .rvi) l))
-          (nothing (not (interruptWindowExiting (r .controls))))
+          (never (not (interruptWindowExiting (r .controls))))

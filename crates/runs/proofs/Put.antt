@@ -3,12 +3,13 @@ use Prim.Native.Nat.{ℕ, _+_, _%_, _≤_, _<_}
 use native.Mathlib.Omega.{arith}
 use mathlib.Core.Path.{_≡_, refl, _∙_, ap}
 use mathlib.Core.Bool.{Bool}
+use mathlib.Core.Logic.{_⊎_, inl, inr, ⊎-elim}
+use lib.Dec.{lit≤}
 use mathlib.Core.List.{List}
 use lib.ListN.{length}
 use lib.Seq.{getD-set-other}
-use Rattle.page.specs.Page.{vppr, visr, virr, byteAt, vectorByte, putBit, isSet, putVector, IsPage}
+use Rattle.page.specs.Page.{vppr, visr, virr, byteAt, vectorByte, putBit, isSet, putVector, IsPage, put}
 use Rattle.page.proofs.Registers.{putBit-byte, vector-within, isSet-put, isSet-other}
-use Rattle.runs.specs.Moves.{put}
 use Rattle.runs.proofs.Kept.{page-set}
 
 module _ (q : List ℕ) (v : ℕ) (on : Bool) (g : IsPage q) (h : v < 256) where
@@ -26,19 +27,22 @@ module _ (q : List ℕ) (v : ℕ) (on : Bool) (g : IsPage q) (h : v < 256) where
       inside : length q ≡ 4096 → base + 0x80 ≤ length q
       inside e = omega arith
 
-  pub visr-keeps-requests : (w : ℕ) → w < 256 → isSet (putVector q visr v on) virr w ≡ isSet q virr w
+  -- a bit of one register is no bit of another
+  other-register : (a b : ℕ) → (a + 0x80 ≤ b) ⊎ (b + 0x80 ≤ a) → (w : ℕ) → w < 256 → isSet (putVector q a v on) b w ≡ isSet q b w
   unfolding putVector
-  visr-keeps-requests w hw = isSet-other q virr (visr + vectorByte v) _ w (λ e. apart e (vector-within v h))
+  other-register a b l w hw = isSet-other q b (a + vectorByte v) _ w (λ e. ⊎-elim (λ x. above x e (vector-within v h)) (λ x. below x e (vector-within w hw)) l)
     where
-      apart : 0x200 + vectorByte w ≡ 0x100 + vectorByte v → vectorByte v < 0x80 → ⊥
-      apart e l = omega arith
+      above : a + 0x80 ≤ b → b + vectorByte w ≡ a + vectorByte v → vectorByte v < 0x80 → ⊥
+      above x e y = omega arith
+
+      below : b + 0x80 ≤ a → b + vectorByte w ≡ a + vectorByte v → vectorByte w < 0x80 → ⊥
+      below x e y = omega arith
+
+  pub visr-keeps-requests : (w : ℕ) → w < 256 → isSet (putVector q visr v on) virr w ≡ isSet q virr w
+  visr-keeps-requests = other-register visr virr (inl (lit≤ tt))
 
   pub virr-keeps-services : (w : ℕ) → w < 256 → isSet (putVector q virr v on) visr w ≡ isSet q visr w
-  unfolding putVector
-  virr-keeps-services w hw = isSet-other q visr (virr + vectorByte v) _ w (λ e. apart e (vector-within w hw))
-    where
-      apart : 0x100 + vectorByte w ≡ 0x200 + vectorByte v → vectorByte w < 0x80 → ⊥
-      apart e l = omega arith
+  virr-keeps-services = other-register virr visr (inr (lit≤ tt))
 
   pub put-keeps-vppr : (base : ℕ) → 0x100 ≤ base → byteAt (putVector q base v on) vppr ≡ byteAt q vppr
   unfolding putVector

@@ -11,9 +11,9 @@ use Rattle.rules.specs.Answers.{Numbers}
 use Rattle.rules.specs.Procedures.{class}
 use Rattle.rules.specs.declared.event.Event.{Event}
 use Rattle.rules.specs.declared.event.Event.the-variants.{Entry, Request, MemoryRead, MemoryWrite, ToCr8, FromCr8, Rdmsr, Wrmsr, Boundary}
-use Rattle.page.specs.Page.{visr, isSet}
+use Rattle.page.specs.Page.{visr, isSet, put}
 use Rattle.model.specs.After.{After}
-use Rattle.runs.specs.Moves.{Move, stays, raises, delivers, retires, isDelivered, raisesIf, retiresIf, moveOf, put, Moved, Deliverable}
+use Rattle.runs.specs.Moves.{Move, stays, raises, delivers, retires, isDelivered, raisesIf, retiresIf, moveOf, Moved, Deliverable}
 use Rattle.runs.specs.History.{deliveryOn, AllOn, Held, start, stepOf, after, serving}
 use Rattle.runs.specs.Condition3.{Highest, Recognition, Served, Rising, Retires, Keeps, without, AtMost15, Delivers16}
 use Rattle.runs.proofs.Laws.{moves, answers-deliver}

@@ -9,9 +9,9 @@ use Rattle.rules.specs.Answers.{Numbers}
 use Rattle.rules.specs.Controls.{interruptWindowExiting}
 use Rattle.rules.specs.Procedures.{class}
 use Rattle.rules.specs.declared.event.Event.{Event}
-use Rattle.page.specs.Page.{vppr, visr, virr, byteAt, isSet, highest}
+use Rattle.page.specs.Page.{vppr, visr, virr, byteAt, isSet, highest, put}
 use Rattle.model.specs.After.{After}
-use Rattle.runs.specs.Moves.{Move, retires, moveOf, put, isDelivered}
+use Rattle.runs.specs.Moves.{Move, retires, moveOf, isDelivered}
 use Rattle.runs.specs.History.{Held, stepOf, member, rest}
 
 -- RVI and SVI are the highest set request and service bits, or zero.

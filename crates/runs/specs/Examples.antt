@@ -1,16 +1,10 @@
 -- Runs that show condition 3 sharp: one with fifteen in service, and one that breaks it with delivery off at its entry.
 use Prim.Native.Nat.{ℕ, zero, suc, _+_, _*_}
-use mathlib.Core.Bool.{true, false}
+use mathlib.Core.Bool.{false}
 use mathlib.Core.List.{List, [], _∷_}
-use Rattle.rules.specs.declared.controls.Controls.{Controls}
 use Rattle.rules.specs.declared.event.Event.{Event}
-use Rattle.rules.specs.declared.event.Event.the-variants.{Entry, Request, MemoryWrite, Boundary}
-
-abbrev pub controls : ℕ → Controls
-controls flags = record { flags = flags; threshold = 0; «eoi_exit_0» = 0; «eoi_exit_1» = 0; «eoi_exit_2» = 0; «eoi_exit_3» = 0 }
-
-abbrev pub openBoundary : Event
-openBoundary = Boundary true false false 0
+use Rattle.rules.specs.declared.event.Event.the-variants.{Entry, Request, MemoryWrite}
+use Rattle.model.specs.Bench.{controls, openBoundary}
 
 -- from class c on, n classes: a self-IPI of the class's first vector, and an open boundary that delivers it
 abbrev pub climb : ℕ → ℕ → List Event
@@ -19,8 +13,8 @@ climb c (suc n) = MemoryWrite 0x300 4 false false (0x40000 + 16 * c) ∷ openBou
 
 -- enter with shadow, APIC accesses, VID and external-interrupt exiting on, then one interrupt of each class
 abbrev pub fifteenDeep : List Event
-fifteenDeep = Entry (controls 0x33) ∷ climb 1 15
+fifteenDeep = Entry (controls 0x33 0) ∷ climb 1 15
 
 -- a request and an entry with the TPR shadow alone
 abbrev pub deliveryOff : List Event
-deliveryOff = Request 0x60 ∷ Entry (controls 0x01) ∷ []
+deliveryOff = Request 0x60 ∷ Entry (controls 0x01 0) ∷ []

@@ -10,7 +10,7 @@ use Rattle.rules.specs.Procedures.{larger}
 use Rattle.rules.specs.declared.controls.Record.{Record}
 use Rattle.rules.specs.declared.event.Event.{Event}
 use Rattle.rules.specs.declared.event.Event.the-variants.{Entry, Request, MemoryRead, MemoryWrite, ToCr8, FromCr8, Rdmsr, Wrmsr, Boundary}
-use Rattle.page.specs.Page.{visr, virr, isSet, highest}
+use Rattle.page.specs.Page.{visr, virr, isSet, put, highest}
 use Rattle.model.specs.After.{After}
 
 -- nothing; raise one vector; deliver RVI; retire SVI
@@ -67,10 +67,6 @@ moveOf (FromCr8 register) n = stays
 moveOf (Rdmsr index) n = stays
 moveOf (Wrmsr index value) n = wrmsrMove index value n
 moveOf (Boundary interrupts sti movSs activity) n = deliversIf (isDelivered n) (n .first)
-
--- a register's bits with one bit on, or off
-abbrev pub put : (ℕ → Bool) → ℕ → Bool → ℕ → Bool
-put f v on w = if eqb v w then on else f w
 
 -- the request bits after the move
 abbrev pub requests : Move → (ℕ → Bool) → ℕ → Bool
