@@ -2,7 +2,7 @@
 use mathlib.Core.Path.{_≡_, refl}
 use mathlib.Core.Bool.{true}
 use lib.ListN.{replicate}
-use Rattle.rules.specs.Controls.{fresh}
+use Rattle.processor.specs.Controls.{fresh}
 use Rattle.page.specs.Page.{wordAt, longAt}
 use Rattle.capi.specs.Records.{recordReadable, recordOf, controlsOf}
 

@@ -4,7 +4,7 @@ use mathlib.Core.Path.{_≡_, refl, _∙_, ap}
 use mathlib.Core.List.{List}
 use Rattle.rules.specs.Answers.{numbers, numbersOf}
 use Rattle.rules.specs.declared.answer.Outcome.{Outcome}
-use Rattle.model.specs.After.{After, Leaves}
+use Rattle.runs.specs.After.{After, Leaves}
 use Rattle.capi.specs.declared.numbers.Numbers.{Numbers}
 use Rattle.capi.specs.Records.{kept}
 use Rattle.capi.specs.Told.{told}

@@ -5,9 +5,9 @@ use mathlib.Core.Bool.{not, _&&_}
 use mathlib.Core.List.{List}
 use lib.Dec.{eqb}
 use lib.ListN.{length, replicate}
-use Rattle.rules.specs.Logic.{if_then_else_}
-use Rattle.model.specs.After.{After}
-use Rattle.model.specs.Step.{step}
+use Rattle.processor.specs.Logic.{if_then_else_}
+use Rattle.runs.specs.After.{After}
+use Rattle.runs.specs.Step.{step}
 use Rattle.capi.specs.Records.{recordReadable, recordOf, kept}
 use Rattle.capi.specs.Events.{eventReadable, eventOf}
 

@@ -3,9 +3,9 @@ use Prim.Native.Nat.{ℕ}
 use mathlib.Core.Bool.{Bool, _&&_}
 use mathlib.Core.List.{List}
 use lib.Dec.{eqb, ltb}
-use Rattle.rules.specs.Logic.{if_then_else_}
-use Rattle.rules.specs.declared.controls.Controls.{Controls}
-use Rattle.rules.specs.declared.controls.Record.{Record}
+use Rattle.processor.specs.Logic.{if_then_else_}
+use Rattle.processor.specs.declared.controls.Controls.{Controls}
+use Rattle.processor.specs.declared.controls.Record.{Record}
 use Rattle.page.specs.Page.{byteAt, wordAt, longAt, setByte, setWord, setLong}
 
 -- threshold u32 at 4, flags u64 at 8, EOI-exit words u64 at 16, 24, 32, 40; an entry's event has them at the same places

@@ -5,7 +5,7 @@ use page::bytes::long_at;
 use page::bytes::set_long;
 use page::bytes::set_word;
 use page::bytes::word_at;
-use rules::controls::Controls;
+use processor::controls::Controls;
 
 const THRESHOLD: u32 = 4;
 

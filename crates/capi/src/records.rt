@@ -6,7 +6,7 @@ use crate::controls::controls_bytes;
 use crate::controls::controls_of;
 use page::bytes::byte_at;
 use page::bytes::set_byte;
-use rules::controls::Record;
+use processor::controls::Record;
 
 const MODE: usize = 0;
 

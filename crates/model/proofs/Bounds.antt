@@ -6,9 +6,9 @@ use mathlib.Core.Bool.{Bool, true, false, not, _&&_}
 use lib.Dec.{ltb}
 use borrow.Author.Tests.{ltb-true, not-false}
 use Rattle.rules.specs.Events.{eventInBounds, inBounds}
-use Rattle.rules.specs.Controls.{flagsInBounds}
-use Rattle.rules.proofs.Tests.{right}
-use Rattle.rules.specs.declared.controls.Record.{Record}
+use Rattle.processor.specs.Controls.{flagsInBounds}
+use Rattle.processor.proofs.Tests.{right}
+use Rattle.processor.specs.declared.controls.Record.{Record}
 use Rattle.rules.specs.declared.event.Event.{Event}
 use Rattle.rules.specs.declared.event.Event.the-variants.{Request}
 

@@ -1,3 +1,1 @@
-pub mod Bench
 pub mod Bounds
-pub mod Determined

@@ -1,7 +1,7 @@
 // The boundary between two guest instructions.
 ghost use mathlib.Core.Path.{_≡_};
-ghost use Rattle.model.specs.After.{Leaves};
-ghost use Rattle.model.specs.Boundary.{deliveredPage, delivery as deliveryOf, boundaryAt, boundary as boundaryOf};
+ghost use Rattle.runs.specs.After.{Leaves};
+ghost use Rattle.runs.specs.Boundary.{deliveredPage, delivery as deliveryOf, boundaryAt, boundary as boundaryOf};
 use crate::outcome::delivered;
 use crate::outcome::exit;
 use crate::outcome::quiet;
@@ -9,10 +9,10 @@ use crate::procedures::VIRR;
 use crate::procedures::VISR;
 use crate::procedures::VPPR;
 use page::bytes::set_word;
-use page::vectors::highest_vector;
-use page::vectors::put_vector;
+use processor::controls::Record;
+use registers::vectors::highest_vector;
+use registers::vectors::put_vector;
 use rules::answer::Outcome;
-use rules::controls::Record;
 use rules::procedures::low_cleared;
 use rules::procedures::open_boundary;
 

@@ -1,21 +1,21 @@
 // CR8 both ways.
 ghost use mathlib.Core.Path.{_≡_};
-ghost use Rattle.model.specs.After.{Leaves};
-ghost use Rattle.model.specs.Cr8Msr.{movToCr8, movFromCr8};
+ghost use Rattle.runs.specs.After.{Leaves};
+ghost use Rattle.runs.specs.Cr8Msr.{movToCr8, movFromCr8};
 use crate::outcome::exit;
 use crate::outcome::passthrough;
 use crate::outcome::redirected;
 use crate::procedures::VTPR;
 use crate::procedures::tpr_virtualization;
+use accesses::cr8::from_cr8;
+use accesses::cr8::from_cr8_qualification;
+use accesses::cr8::to_cr8;
+use accesses::cr8::to_cr8_qualification;
+use accesses::memory::Access;
 use page::bytes::byte_at;
 use page::bytes::set_word;
+use processor::controls::Record;
 use rules::answer::Outcome;
-use rules::controls::Record;
-use rules::cr8::from_cr8;
-use rules::cr8::from_cr8_qualification;
-use rules::cr8::to_cr8;
-use rules::cr8::to_cr8_qualification;
-use rules::memory::Access;
 use rules::procedures::class_of;
 
 pub fn mov_to_cr8(page: &mut [u8], record: Record, value: u8, register: u8) -> Outcome

@@ -1,7 +1,7 @@
 // Entry and request.
 ghost use mathlib.Core.Path.{_≡_};
-ghost use Rattle.model.specs.After.{Leaves};
-ghost use Rattle.model.specs.Entry.{entered as enteredOf, entry as entryOf, request as requestOf};
+ghost use Rattle.runs.specs.After.{Leaves};
+ghost use Rattle.runs.specs.Entry.{entered as enteredOf, entry as entryOf, request as requestOf};
 use crate::outcome::exit;
 use crate::outcome::quiet;
 use crate::outcome::refused;
@@ -11,10 +11,10 @@ use crate::procedures::evaluated_quiet;
 use crate::procedures::ppr_virtualization;
 use crate::procedures::requested;
 use page::bytes::byte_at;
-use page::vectors::put_vector;
+use processor::controls::Controls;
+use processor::controls::Record;
+use registers::vectors::put_vector;
 use rules::answer::Outcome;
-use rules::controls::Controls;
-use rules::controls::Record;
 use rules::entry::exits_at_entry;
 use rules::entry::failing_check;
 

@@ -1,12 +1,12 @@
 // The base model: one event at a time on a lent page.
 ghost use mathlib.Core.Path.{_≡_};
-ghost use Rattle.rules.specs.Controls.{fresh};
-ghost use Rattle.model.specs.After.{Leaves};
-ghost use Rattle.model.specs.Step.{carriedOut, step as stepOf};
+ghost use Rattle.processor.specs.Controls.{fresh};
+ghost use Rattle.runs.specs.After.{Leaves};
+ghost use Rattle.runs.specs.Step.{carriedOut, step as stepOf};
 ghost use Rattle.rules.specs.Events.{eventInBounds};
 ghost use mathlib.Core.Bool.{true};
+use processor::controls::Record;
 use rules::answer::Outcome;
-use rules::controls::Record;
 use rules::event::Event;
 
 mod boundary;
@@ -21,7 +21,7 @@ mod procedures;
 pub fn fresh_record() -> Record
     ensures { λ r. ⌜ r ≡ fresh ⌝ }
 {
-    rules::controls::fresh_record()
+    processor::controls::fresh_record()
 }
 
 fn carry_out(page: &mut [u8], record: Record, event: Event) -> Outcome

@@ -1,7 +1,7 @@
 // Memory accesses.
 ghost use mathlib.Core.Path.{_≡_};
-ghost use Rattle.model.specs.After.{Leaves};
-ghost use Rattle.model.specs.Memory.{memoryRead, clearThree, followBy, written as writtenOf, memoryWrite};
+ghost use Rattle.runs.specs.After.{Leaves};
+ghost use Rattle.runs.specs.Memory.{memoryRead, clearThree, followBy, written as writtenOf, memoryWrite};
 use crate::outcome::exit;
 use crate::outcome::passthrough;
 use crate::outcome::quiet;
@@ -10,20 +10,20 @@ use crate::procedures::VTPR;
 use crate::procedures::eoi_virtualization;
 use crate::procedures::self_ipi_virtualization;
 use crate::procedures::tpr_virtualization;
+use accesses::memory::Access;
+use accesses::memory::Following;
+use accesses::memory::memory_access;
+use accesses::memory::read_qualification;
+use accesses::memory::write_following;
+use accesses::memory::write_qualification;
 use page::bytes::byte_at;
 use page::bytes::read_at;
 use page::bytes::set_byte;
 use page::bytes::set_word;
 use page::bytes::store_at;
 use page::bytes::word_at;
+use processor::controls::Record;
 use rules::answer::Outcome;
-use rules::controls::Record;
-use rules::memory::Access;
-use rules::memory::Following;
-use rules::memory::memory_access;
-use rules::memory::read_qualification;
-use rules::memory::write_following;
-use rules::memory::write_qualification;
 
 const VEOI: u32 = 0x0b0;
 

@@ -1,7 +1,7 @@
 // RDMSR and WRMSR.
 ghost use mathlib.Core.Path.{_≡_};
-ghost use Rattle.model.specs.After.{Leaves};
-ghost use Rattle.model.specs.Cr8Msr.{readMsr, writeMsrBy, writeMsr};
+ghost use Rattle.runs.specs.After.{Leaves};
+ghost use Rattle.runs.specs.Cr8Msr.{readMsr, writeMsrBy, writeMsr};
 use crate::outcome::exit;
 use crate::outcome::fault;
 use crate::outcome::passthrough;
@@ -9,14 +9,14 @@ use crate::outcome::redirected;
 use crate::procedures::eoi_virtualization;
 use crate::procedures::self_ipi_virtualization;
 use crate::procedures::tpr_virtualization;
+use accesses::msr::MsrWrite;
+use accesses::msr::msr_offset;
+use accesses::msr::rdmsr_redirected;
+use accesses::msr::wrmsr_of;
 use page::bytes::long_at;
 use page::bytes::set_long;
+use processor::controls::Record;
 use rules::answer::Outcome;
-use rules::controls::Record;
-use rules::msr::MsrWrite;
-use rules::msr::msr_offset;
-use rules::msr::rdmsr_redirected;
-use rules::msr::wrmsr_of;
 
 pub fn read_msr(page: &[u8], record: Record, index: u32) -> Outcome
     ensures { λ r. ⌜ Leaves (readMsr (now (page .entry)) «record» index) r (now (page .entry)) ⌝ }

@@ -1,10 +1,10 @@
 // An answer with its record, on whatever page.
 ghost use Prim.Native.Nat.{ℕ};
 ghost use mathlib.Core.List.{List};
-ghost use Rattle.model.specs.After.{Leaves, refused as refusedOf, redirected as redirectedOf, passthrough as passthroughOf, fault as faultOf, exit as exitOf, delivered as deliveredOf, quiet as quietOf};
+ghost use Rattle.runs.specs.After.{Leaves, refused as refusedOf, redirected as redirectedOf, passthrough as passthroughOf, fault as faultOf, exit as exitOf, delivered as deliveredOf, quiet as quietOf};
+use processor::controls::Record;
 use rules::answer::Answer;
 use rules::answer::Outcome;
-use rules::controls::Record;
 
 pub fn refused(record: Record, number: u8, check: u8) -> Outcome
     ensures { λ r. ⌜ ((p : List ℕ) → Leaves (refusedOf number check p «record») r p) ⌝ }

@@ -1,15 +1,15 @@
 // The five procedures.
 ghost use mathlib.Core.Path.{_≡_};
-ghost use Rattle.model.specs.After.{Leaves};
-ghost use Rattle.model.specs.Procedures.{pprVirtualization, evaluation as evaluationOf, evaluatedQuiet, tprVirtualization, retiredPage, retiredRecord, eoiEnd, eoiVirtualization, requestedPage, requestedRecord, selfIpiVirtualization};
+ghost use Rattle.runs.specs.After.{Leaves};
+ghost use Rattle.runs.specs.Procedures.{pprVirtualization, evaluation as evaluationOf, evaluatedQuiet, tprVirtualization, retiredPage, retiredRecord, eoiEnd, eoiVirtualization, requestedPage, requestedRecord, selfIpiVirtualization};
 use crate::outcome::exit;
 use crate::outcome::quiet;
 use page::bytes::byte_at;
 use page::bytes::set_word;
-use page::vectors::highest_vector;
-use page::vectors::put_vector;
+use processor::controls::Record;
+use registers::vectors::highest_vector;
+use registers::vectors::put_vector;
 use rules::answer::Outcome;
-use rules::controls::Record;
 use rules::procedures::below_threshold;
 use rules::procedures::evaluates;
 use rules::procedures::larger_of;

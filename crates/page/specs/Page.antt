@@ -5,7 +5,7 @@ use mathlib.Core.Bool.{Bool, true, false}
 use mathlib.Core.List.{List}
 use lib.ListN.{length, getD, set}
 use lib.Dec.{eqb}
-use Rattle.rules.specs.Logic.{if_then_else_, bit}
+use Rattle.processor.specs.Logic.{if_then_else_, bit}
 
 -- Little-endian, offsets in hex: VTPR 080, VPPR 0A0, VEOI 0B0, VISR 100, VIRR 200, VICR_LO 300, VICR_HI 310.
 abbrev pub vtpr : ℕ

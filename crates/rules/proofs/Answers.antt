@@ -2,7 +2,7 @@
 use Prim.Native.Nat.{ℕ}
 use mathlib.Core.Path.{_≡_, refl, sym, _∙_, ap}
 use lib.Dec.{eqb}
-use Rattle.rules.specs.Logic.{if_then_else_}
+use Rattle.processor.specs.Logic.{if_then_else_}
 use Rattle.rules.specs.Answers.{Numbers, numbersOf}
 use Rattle.rules.specs.declared.answer.Answer.{Answer}
 use Rattle.rules.specs.declared.answer.Answer.the-variants.{Refused, Redirected, Passthrough, Fault, Exit, Delivered, Quiet}

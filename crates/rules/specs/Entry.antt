@@ -2,10 +2,10 @@
 use Prim.Native.Nat.{ℕ, _/_}
 use mathlib.Core.Bool.{Bool, not, _&&_, _||_}
 use lib.Dec.{ltb}
-use Rattle.rules.specs.Logic.{if_then_else_}
-use Rattle.rules.specs.Controls.{useTprShadow, virtualizeApicAccesses, virtualizeX2apicMode, apicRegisterVirtualization, virtualDelivery, externalInterruptExiting}
+use Rattle.processor.specs.Logic.{if_then_else_}
+use Rattle.processor.specs.Controls.{useTprShadow, virtualizeApicAccesses, virtualizeX2apicMode, apicRegisterVirtualization, virtualDelivery, externalInterruptExiting}
 use Rattle.rules.specs.Procedures.{class}
-use Rattle.rules.specs.declared.controls.Controls.{Controls}
+use Rattle.processor.specs.declared.controls.Controls.{Controls}
 
 -- 1, TPR shadow off while any of controls 2, 3, 4 is on
 abbrev pub check1 : Controls → Bool

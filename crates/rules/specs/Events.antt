@@ -2,9 +2,9 @@
 use Prim.Native.Nat.{ℕ, _*_, _^_}
 use mathlib.Core.Bool.{Bool, true, false, not, _&&_, _||_}
 use lib.Dec.{eqb, ltb}
-use Rattle.rules.specs.Logic.{if_then_else_}
-use Rattle.rules.specs.Controls.{flagsInBounds}
-use Rattle.rules.specs.declared.controls.Record.{Record}
+use Rattle.processor.specs.Logic.{if_then_else_}
+use Rattle.processor.specs.Controls.{flagsInBounds}
+use Rattle.processor.specs.declared.controls.Record.{Record}
 use Rattle.rules.specs.declared.event.Event.{Event}
 use Rattle.rules.specs.declared.event.Event.the-variants.{Entry, Request, MemoryRead, MemoryWrite, ToCr8, FromCr8, Rdmsr, Wrmsr, Boundary}
 

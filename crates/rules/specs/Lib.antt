@@ -1,9 +1,4 @@
-pub mod Logic
-pub mod Controls
 pub mod Events
 pub mod Answers
 pub mod Entry
-pub mod Memory
-pub mod Marks
-pub mod Cr8Msr
 pub mod Procedures

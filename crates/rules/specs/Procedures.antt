@@ -2,9 +2,9 @@
 use Prim.Native.Nat.{ℕ, _/_, _%_, _*_, max}
 use mathlib.Core.Bool.{Bool, not, _&&_}
 use lib.Dec.{leb, ltb}
-use Rattle.rules.specs.Logic.{if_then_else_}
-use Rattle.rules.specs.Controls.{interruptWindowExiting}
-use Rattle.rules.specs.declared.controls.Controls.{Controls}
+use Rattle.processor.specs.Logic.{if_then_else_}
+use Rattle.processor.specs.Controls.{interruptWindowExiting}
+use Rattle.processor.specs.declared.controls.Controls.{Controls}
 
 -- A vector's class is its bits 7:4.
 abbrev pub class : ℕ → ℕ

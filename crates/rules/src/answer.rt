@@ -1,5 +1,5 @@
 // What comes back of an event.
-use crate::controls::Record;
+use processor::controls::Record;
 
 pub enum Answer {
     Refused { number: u8, check: u8 },

@@ -1,7 +1,7 @@
 // The entry checks, and when exit 43 follows an entry at once.
 ghost use mathlib.Core.Path.{_≡_};
 ghost use Rattle.rules.specs.Entry.{check1, check2, check3, check4, failingCheck, exitsAtEntry};
-use crate::controls::Controls;
+use processor::controls::Controls;
 
 fn check_1(c: Controls) -> bool
     ensures { λ r. ⌜ r ≡ check1 c ⌝ }

@@ -1,8 +1,8 @@
 // The events, at widths that can hold what a recorder writes down, and their bounds.
 ghost use mathlib.Core.Path.{_≡_};
 ghost use Rattle.rules.specs.Events.{sizeInBounds, valueInBounds, eventInBounds, inBounds, rootOnly, allowed};
-use crate::controls::Controls;
-use crate::controls::Record;
+use processor::controls::Controls;
+use processor::controls::Record;
 
 pub enum Event {
     Entry(Controls),

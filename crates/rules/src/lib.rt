@@ -1,9 +1,6 @@
-// The types of document 01, and every decision that is taken from numbers alone. Nothing here holds a page.
+// The events and answers of document 01, and what is decided from numbers alone: bounds, modes, the entry checks, priority classes.
+// Nothing here holds a page.
 pub mod answer;
-pub mod controls;
-pub mod cr8;
 pub mod entry;
 pub mod event;
-pub mod memory;
-pub mod msr;
 pub mod procedures;

@@ -1,7 +1,7 @@
 // What the five procedures and the boundary decide from numbers alone.
 ghost use mathlib.Core.Path.{_≡_};
 ghost use Rattle.rules.specs.Procedures.{class, lowCleared, ppr, belowThreshold, evaluated, larger, openBoundary};
-use crate::controls::Controls;
+use processor::controls::Controls;
 
 // A vector's class.
 pub fn class_of(vector: u8) -> u8

@@ -7,17 +7,17 @@ use mathlib.Core.List.{List, [], _∷_}
 use lib.Dec.{T, eqb, ltb, lit<, T-not}
 use lib.ListN.{length, getD, replicate, length-replicate}
 use borrow.Author.Tests.{ltb-true}
-use Rattle.rules.specs.Logic.{if_then_else_, allBelow}
-use Rattle.rules.specs.Controls.{interruptWindowExiting, fresh}
+use Rattle.processor.specs.Logic.{if_then_else_, allBelow}
+use Rattle.processor.specs.Controls.{interruptWindowExiting, fresh}
 use Rattle.rules.specs.Procedures.{class, evaluated, larger}
-use Rattle.rules.specs.declared.controls.Record.{Record}
+use Rattle.processor.specs.declared.controls.Record.{Record}
 use Rattle.rules.specs.declared.event.Event.{Event}
-use Rattle.rules.proofs.Tests.{below, right}
+use Rattle.processor.proofs.Tests.{below, right}
 use Rattle.page.specs.Page.{vppr, visr, virr, byteAt, isSet, highestBelow, highest, IsPage, put}
-use Rattle.page.proofs.Top.{top, highest-top, top-ext, top-raise}
-use Rattle.page.proofs.Registers.{highest-ext, highest-byte}
-use Rattle.model.specs.After.{After}
-use Rattle.model.specs.Run.{zeroPage}
+use Rattle.registers.proofs.Top.{top, highest-top, top-ext, top-raise}
+use Rattle.registers.proofs.Registers.{highest-ext, highest-byte}
+use Rattle.runs.specs.After.{After}
+use Rattle.runs.specs.Run.{zeroPage}
 use Rattle.runs.specs.Moves.{Move, stays, raises, delivers, retires, moveOf, Moved, Deliverable}
 use Rattle.runs.specs.Settled.{ByteRecord, Settled}
 use Rattle.runs.specs.History.{deliveryOn, AllOn, none, more, Held, start, stepOf, heldAfter, after, answers, served, inService, member, rest}

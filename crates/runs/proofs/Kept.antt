@@ -10,9 +10,9 @@ use lib.Dec.{T, eqb, leb, ltb, lit<, lit≤}
 use lib.ListN.{length, getD, set, length-set}
 use lib.Seq.{getD-set-same, getD-set-other, set-out}
 use borrow.Author.Tests.{eqb-true, eqb-false, ltb-true, ltb-false, leb-true}
-use Rattle.rules.proofs.Tests.{left, right}
+use Rattle.processor.proofs.Tests.{left, right}
 use Rattle.page.specs.Page.{vppr, visr, virr, byteAt, setByte, setHalf, setWord, setLong, vectorByte, isSet, IsPage}
-use Rattle.page.proofs.Registers.{isSet-other, vector-within}
+use Rattle.registers.proofs.Registers.{isSet-other, vector-within}
 
 -- q is a page with the request and service bits of p
 pub record Same (p q : List ℕ) : Type 0 where

@@ -8,9 +8,9 @@ use mathlib.Core.List.{List, [], _∷_}
 use lib.Dec.{eqb, ltb}
 use lib.ListN.{length}
 use borrow.Author.Tests.{eqb-true, eqb-false, eq-eqb, ne-eqb, lt-ltb, le-ltb}
-use Rattle.rules.specs.Logic.{if_then_else_}
+use Rattle.processor.specs.Logic.{if_then_else_}
 use Rattle.rules.specs.Procedures.{class}
-use Rattle.page.proofs.Top.{top, top-unique, top-none}
+use Rattle.registers.proofs.Top.{top, top-unique, top-none}
 use Rattle.page.specs.Page.{put}
 use Rattle.runs.specs.History.{member, rest}
 use Rattle.runs.specs.Condition3.{Rising, one, count}

@@ -9,33 +9,33 @@ use lib.Dec.{eqb, leb, ltb, lit<}
 use lib.ListN.{length, getD, set, length-set}
 use lib.Seq.{getD-set-same, getD-set-other}
 use borrow.Author.Tests.{eqb-true, ltb-true, ltb-false, leb-true, ne-eqb}
-use Rattle.rules.specs.Logic.{if_then_else_}
+use Rattle.processor.specs.Logic.{if_then_else_}
 use Rattle.rules.specs.Answers.{Numbers, numbers}
-use Rattle.rules.specs.Controls.{virtualizeX2apicMode, virtualDelivery, virtualizeApicAccesses, useTprShadow, interruptWindowExiting, flagsInBounds, withGuest, withControls}
+use Rattle.processor.specs.Controls.{virtualizeX2apicMode, virtualDelivery, virtualizeApicAccesses, useTprShadow, interruptWindowExiting, flagsInBounds, withGuest, withControls}
 use Rattle.rules.specs.Events.{offsetInBounds, sizeInBounds, valueInBounds, eventInBounds, inBounds, rootOnly, allowed}
 use Rattle.rules.specs.Entry.{failingCheck, exitsAtEntry}
-use Rattle.rules.specs.Memory.{openOffset, pastRegister, accessExits, memoryAccess, readQualification, writeQualification, selfIpi, inRegister, writeFollowing}
-use Rattle.rules.specs.Cr8Msr.{toCr8, fromCr8, toCr8Qualification, fromCr8Qualification, rdmsrRedirected, msrOffset, wrmsrHandled, wrmsrFaults, wrmsrFollowing, wrmsr}
+use Rattle.accesses.specs.Memory.{openOffset, pastRegister, accessExits, memoryAccess, readQualification, writeQualification, selfIpi, inRegister, writeFollowing}
+use Rattle.accesses.specs.Cr8Msr.{toCr8, fromCr8, toCr8Qualification, fromCr8Qualification, rdmsrRedirected, msrOffset, wrmsrHandled, wrmsrFaults, wrmsrFollowing, wrmsr}
 use Rattle.rules.specs.Procedures.{openBoundary}
-use Rattle.rules.proofs.Tests.{left, right, none-left, none-right}
-use Rattle.rules.specs.declared.controls.Controls.{Controls}
-use Rattle.rules.specs.declared.controls.Record.{Record}
+use Rattle.processor.proofs.Tests.{left, right, none-left, none-right}
+use Rattle.processor.specs.declared.controls.Controls.{Controls}
+use Rattle.processor.specs.declared.controls.Record.{Record}
 use Rattle.rules.specs.declared.event.Event.{Event}
 use Rattle.rules.specs.declared.event.Event.the-variants.{Entry, Request, MemoryRead, MemoryWrite, ToCr8, FromCr8, Rdmsr, Wrmsr, Boundary}
-use Rattle.rules.specs.declared.memory.Access.{Access}
-use Rattle.rules.specs.declared.memory.Access.the-variants.{Passthrough, Exit, Redirected}
-use Rattle.rules.specs.declared.memory.Following.{Following}
-use Rattle.rules.specs.declared.memory.Following.the-variants.{Tpr, Eoi, SelfIpi, IcrHigh, ApicWrite}
-use Rattle.rules.specs.declared.msr.MsrWrite.{MsrWrite}
-use Rattle.rules.specs.declared.msr.MsrWrite.the-variants.{Passthrough as MsrPassthrough, Fault, Tpr as MsrTpr, Eoi as MsrEoi, SelfIpi as MsrSelfIpi, ApicWrite as MsrApicWrite}
+use Rattle.accesses.specs.declared.memory.Access.{Access}
+use Rattle.accesses.specs.declared.memory.Access.the-variants.{Passthrough, Exit, Redirected}
+use Rattle.accesses.specs.declared.memory.Following.{Following}
+use Rattle.accesses.specs.declared.memory.Following.the-variants.{Tpr, Eoi, SelfIpi, IcrHigh, ApicWrite}
+use Rattle.accesses.specs.declared.msr.MsrWrite.{MsrWrite}
+use Rattle.accesses.specs.declared.msr.MsrWrite.the-variants.{Passthrough as MsrPassthrough, Fault, Tpr as MsrTpr, Eoi as MsrEoi, SelfIpi as MsrSelfIpi, ApicWrite as MsrApicWrite}
 use Rattle.page.specs.Page.{virr, highest, vtpr, veoi, vicrLo, vicrHi, byteAt, wordAt, longAt, readAt, setByte, setHalf, setWord, setLong, storeAt, IsPage}
-use Rattle.model.specs.After.{After, refused, redirected, passthrough, fault, exit, quiet}
-use Rattle.model.specs.Procedures.{tprVirtualization, eoiVirtualization, selfIpiVirtualization}
-use Rattle.model.specs.Entry.{entry, entered, request}
-use Rattle.model.specs.Memory.{readBy, memoryRead, clearThree, followBy, written, writeBy, memoryWrite}
-use Rattle.model.specs.Cr8Msr.{toCr8By, movToCr8, fromCr8By, movFromCr8, readMsr, writeMsrBy, writeMsr}
-use Rattle.model.specs.Boundary.{delivery, boundaryAt, boundary}
-use Rattle.model.specs.Step.{carriedOut, step}
+use Rattle.runs.specs.After.{After, refused, redirected, passthrough, fault, exit, quiet}
+use Rattle.runs.specs.Procedures.{tprVirtualization, eoiVirtualization, selfIpiVirtualization}
+use Rattle.runs.specs.Entry.{entry, entered, request}
+use Rattle.runs.specs.Memory.{readBy, memoryRead, clearThree, followBy, written, writeBy, memoryWrite}
+use Rattle.runs.specs.Cr8Msr.{toCr8By, movToCr8, fromCr8By, movFromCr8, readMsr, writeMsrBy, writeMsr}
+use Rattle.runs.specs.Boundary.{delivery, boundaryAt, boundary}
+use Rattle.runs.specs.Step.{carriedOut, step}
 use Rattle.runs.specs.Moves.{Move, stays, raises, delivers, retires, isQuiet, isDelivered, isQuietOr45, raisesIf, retiresIf, deliversIf, writeMove, wrmsrMove, moveOf, Moved}
 use Rattle.runs.specs.Settled.{ByteRecord, Settled}
 use Rattle.runs.specs.History.{deliveryOn}

@@ -7,20 +7,20 @@ use mathlib.Core.Bool.{Bool, true, false, not, _&&_, true≢false, false≢true}
 use mathlib.Core.List.{List}
 use lib.Dec.{eqb, leb, ltb, lit≤}
 use borrow.Author.Tests.{leb-true, leb-false, ltb-true, ltb-false, le-ltb}
-use Rattle.rules.specs.Logic.{if_then_else_}
+use Rattle.processor.specs.Logic.{if_then_else_}
 use Rattle.rules.specs.Answers.{Numbers, numbers}
-use Rattle.rules.specs.Controls.{virtualDelivery, eoiExit, interruptWindowExiting, withGuest, withRvi, withSvi, withRecognised, withControls}
+use Rattle.processor.specs.Controls.{virtualDelivery, eoiExit, interruptWindowExiting, withGuest, withRvi, withSvi, withRecognised, withControls}
 use Rattle.rules.specs.Procedures.{class, lowCleared, ppr, belowThreshold, evaluated, larger}
-use Rattle.rules.specs.declared.controls.Controls.{Controls}
-use Rattle.rules.specs.declared.controls.Record.{Record}
+use Rattle.processor.specs.declared.controls.Controls.{Controls}
+use Rattle.processor.specs.declared.controls.Record.{Record}
 use Rattle.rules.specs.declared.event.Event.{Event}
-use Rattle.rules.proofs.Tests.{never}
+use Rattle.processor.proofs.Tests.{never}
 use Rattle.page.specs.Page.{vtpr, vppr, visr, virr, byteAt, isSet, setWord, putVector, setVector, clearVector, highest, IsPage, put}
-use Rattle.page.proofs.Registers.{highest-ext, highest-fewer, highest-byte}
-use Rattle.model.specs.After.{After, exit, quiet, delivered}
-use Rattle.model.specs.Procedures.{pprVirtualization, evaluation, evaluatedQuiet, tprVirtualization, retiredPage, retiredRecord, eoiEnd, eoiVirtualization, requestedPage, requestedRecord, selfIpiVirtualization}
-use Rattle.model.specs.Entry.{entered, request}
-use Rattle.model.specs.Boundary.{deliveredPage, deliveredRecord, delivery}
+use Rattle.registers.proofs.Registers.{highest-ext, highest-fewer, highest-byte}
+use Rattle.runs.specs.After.{After, exit, quiet, delivered}
+use Rattle.runs.specs.Procedures.{pprVirtualization, evaluation, evaluatedQuiet, tprVirtualization, retiredPage, retiredRecord, eoiEnd, eoiVirtualization, requestedPage, requestedRecord, selfIpiVirtualization}
+use Rattle.runs.specs.Entry.{entered, request}
+use Rattle.runs.specs.Boundary.{deliveredPage, deliveredRecord, delivery}
 use Rattle.runs.specs.Moves.{Move, stays, raises, delivers, retires, isDelivered, isQuietOr45, moveOf, Moved}
 use Rattle.runs.specs.Settled.{ByteRecord, Settled}
 use Rattle.runs.specs.History.{deliveryOn}
@@ -179,7 +179,7 @@ module _ (p : List ℕ) (r : Record) (e : Event) (g : IsPage p) (b : ByteRecord 
   -- EOI virtualization
   pub good-eoi : (q : List ℕ) → Kept p q → r .guest ≡ true → ((n : Numbers) → isQuietOr45 n ≡ true → moveOf e n ≡ retires) → Good p r e (eoiVirtualization q r)
   unfolding eoiVirtualization eoiEnd evaluatedQuiet evaluation retiredRecord
-  good-eoi q k t m = by (eoiExit (r .controls) (r .svi))
+  good-eoi q k t m = by (eoiExit (r .controls) (r .svi)) refl
     where
       page₁ : IsPage (retiredPage q r)
       page₁ = retired-page q r (k .same .isPage) (b .svi)
@@ -196,19 +196,19 @@ module _ (p : List ℕ) (r : Record) (e : Event) (g : IsPage p) (b : ByteRecord 
         svi = j ∙ sym (highest-ext (endPage q r) (retiredPage q r) visr (kept₂ .service));
       })
 
-      by : (x : Bool) → Good p r e (if x then exit 45 (r .svi) (endPage q r) (endRecord q r) else quiet (endPage q r) (evaluation (endPage q r) (endRecord q r)))
-      by true = record {
+      by : (x : Bool) → eoiExit (r .controls) (r .svi) ≡ x → Good p r e (eoiVirtualization q r)
+      by true x = simp x (record {
         isPage = kept₂ .isPage;
-        moved = moved₂ (numbers 4 45 (r .svi)) (withRecognised (withGuest (endRecord q r) false) false) (m (numbers 4 45 (r .svi)) refl) refl refl;
-        named = λ x. absurd (false≢true x);
+        moved = moved₂ (numbers 4 45 (r .svi)) _ (m (numbers 4 45 (r .svi)) refl) refl refl;
+        named = λ y. absurd (false≢true y);
         settled = λ i s d. settled-root (endPage q r) (endRecord q r);
-      }
-      by false = record {
+      })
+      by false x = simp x (record {
         isPage = kept₂ .isPage;
-        moved = moved₂ (numbers 6 0 0) (evaluation (endPage q r) (endRecord q r)) (m (numbers 6 0 0) refl) refl refl;
-        named = λ x. absurd (false≢true x);
+        moved = moved₂ (numbers 6 0 0) _ (m (numbers 6 0 0) refl) refl refl;
+        named = λ y. absurd (false≢true y);
         settled = λ i s d. settled-evaluated (endPage q r) (endRecord q r) t (s .on t) (ppr-class (retiredPage q r) (endRecord q r) page₁ (highest-byte (retiredPage q r) visr));
-      }
+      })
 
   -- what a raised vector does to the bits
   moved-raises : {m : Move} (q : List ℕ) (v : ℕ) (a : After) → m ≡ raises v → v < 256 → Same p q → a .page ≡ setVector q virr v → a .state .rvi ≡ larger (r .rvi) v → a .state .svi ≡ r .svi → Moved m p r a

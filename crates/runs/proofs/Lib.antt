@@ -1,9 +1,12 @@
-pub mod Invariant
+pub mod Determined
+pub mod Bench
+pub mod Answered
 pub mod Kept
-pub mod Ladder
-pub mod Laws
-pub mod Leaves
 pub mod Put
 pub mod Stores
+pub mod Leaves
+pub mod Laws
+pub mod Ladder
+pub mod Invariant
 pub mod Theorems
 pub mod Sharp

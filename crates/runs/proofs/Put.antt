@@ -9,7 +9,7 @@ use mathlib.Core.List.{List}
 use lib.ListN.{length}
 use lib.Seq.{getD-set-other}
 use Rattle.page.specs.Page.{vppr, visr, virr, byteAt, vectorByte, putBit, isSet, putVector, IsPage, put}
-use Rattle.page.proofs.Registers.{putBit-byte, vector-within, isSet-put, isSet-other}
+use Rattle.registers.proofs.Registers.{putBit-byte, vector-within, isSet-put, isSet-other}
 use Rattle.runs.proofs.Kept.{page-set}
 
 module _ (q : List ℕ) (v : ℕ) (on : Bool) (g : IsPage q) (h : v < 256) where

@@ -3,17 +3,17 @@ use Prim.Native.Nat.{ℕ}
 use mathlib.Core.Path.{_≡_, refl, sym, _∙_}
 use mathlib.Core.Bool.{Bool, true, false, true≢false}
 use mathlib.Core.List.{List, [], _∷_}
-use Rattle.rules.specs.Controls.{eoiExitWord}
+use Rattle.processor.specs.Controls.{eoiExitWord}
 use Rattle.rules.specs.Events.{valueInBounds, eventInBounds, rootOnly, allowed}
 use Rattle.rules.specs.Entry.{failingCheck}
-use Rattle.rules.specs.Memory.{openOffset, memoryAccess, writeFollowing}
+use Rattle.accesses.specs.Memory.{openOffset, memoryAccess, writeFollowing}
 use Rattle.rules.specs.Procedures.{ppr, larger}
 use Rattle.page.specs.Page.{wordAt, setWord, storeAt, isSet, putVector, highestBelow, highest}
-use Rattle.model.specs.Procedures.{pprVirtualization, evaluation, evaluatedQuiet, requestedPage, requestedRecord, selfIpiVirtualization}
-use Rattle.model.specs.Entry.{entered, entry, request}
-use Rattle.model.specs.Memory.{followBy, written, writeBy, memoryWrite}
-use Rattle.model.specs.Boundary.{deliveredPage, deliveredRecord, delivery, boundaryAt, boundary}
-use Rattle.model.specs.Step.{carriedOut, step}
+use Rattle.runs.specs.Procedures.{pprVirtualization, evaluation, evaluatedQuiet, requestedPage, requestedRecord, selfIpiVirtualization}
+use Rattle.runs.specs.Entry.{entered, entry, request}
+use Rattle.runs.specs.Memory.{followBy, written, writeBy, memoryWrite}
+use Rattle.runs.specs.Boundary.{deliveredPage, deliveredRecord, delivery, boundaryAt, boundary}
+use Rattle.runs.specs.Step.{carriedOut, step}
 use Rattle.runs.specs.History.{start, after, AllOn, none, more}
 use Rattle.runs.specs.Condition3.{depth, Recognition, recognisedNow}
 use Rattle.runs.specs.Examples.{fifteenDeep, deliveryOff}

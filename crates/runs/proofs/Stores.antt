@@ -7,12 +7,12 @@ use mathlib.Core.Bool.{Bool, true, false, not, _&&_, _||_, true≢false}
 use mathlib.Core.List.{List}
 use lib.Dec.{T, eqb, leb, ltb, lit<}
 use borrow.Author.Tests.{eqb-true, ltb-false, lt-ltb}
-use Rattle.rules.specs.Logic.{if_then_else_, allBelow}
-use Rattle.rules.specs.Controls.{apicRegisterVirtualization, virtualDelivery}
+use Rattle.processor.specs.Logic.{if_then_else_, allBelow}
+use Rattle.processor.specs.Controls.{apicRegisterVirtualization, virtualDelivery}
 use Rattle.rules.specs.Events.{sizeInBounds}
-use Rattle.rules.specs.Memory.{openTpr, openDelivery, openWrite, openOffset, pastRegister}
-use Rattle.rules.specs.declared.controls.Controls.{Controls}
-use Rattle.rules.proofs.Tests.{below}
+use Rattle.accesses.specs.Memory.{openTpr, openDelivery, openWrite, openOffset, pastRegister}
+use Rattle.processor.specs.declared.controls.Controls.{Controls}
+use Rattle.processor.proofs.Tests.{below}
 use Rattle.page.specs.Page.{byteAt, setByte, storeAt, IsPage}
 use Rattle.runs.proofs.Kept.{Kept, free, kept-refl, kept-set, kept-half, kept-word}
 

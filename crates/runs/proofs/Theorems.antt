@@ -6,13 +6,13 @@ use mathlib.Core.Path.{_≡_, refl, sym, _∙_, ap, subst}
 use mathlib.Core.Bool.{Bool, true, false, true≢false, false≢true}
 use mathlib.Core.List.{List, [], _∷_}
 use lib.Dec.{eqb}
-use Rattle.rules.specs.Logic.{if_then_else_}
+use Rattle.processor.specs.Logic.{if_then_else_}
 use Rattle.rules.specs.Answers.{Numbers}
 use Rattle.rules.specs.Procedures.{class}
 use Rattle.rules.specs.declared.event.Event.{Event}
 use Rattle.rules.specs.declared.event.Event.the-variants.{Entry, Request, MemoryRead, MemoryWrite, ToCr8, FromCr8, Rdmsr, Wrmsr, Boundary}
 use Rattle.page.specs.Page.{visr, isSet, put}
-use Rattle.model.specs.After.{After}
+use Rattle.runs.specs.After.{After}
 use Rattle.runs.specs.Moves.{Move, stays, raises, delivers, retires, isDelivered, raisesIf, retiresIf, moveOf, Moved, Deliverable}
 use Rattle.runs.specs.History.{deliveryOn, AllOn, Held, start, stepOf, after, serving}
 use Rattle.runs.specs.Condition3.{Highest, Recognition, Served, Rising, Retires, Keeps, without, AtMost15, Delivers16}

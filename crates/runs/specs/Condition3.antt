@@ -4,13 +4,13 @@ use mathlib.Core.Path.{_≡_}
 use mathlib.Core.Bool.{Bool, true, false, not, _&&_}
 use mathlib.Core.List.{List, [], _∷_}
 use lib.Dec.{eqb, ltb}
-use Rattle.rules.specs.Logic.{if_then_else_}
+use Rattle.processor.specs.Logic.{if_then_else_}
 use Rattle.rules.specs.Answers.{Numbers}
-use Rattle.rules.specs.Controls.{interruptWindowExiting}
+use Rattle.processor.specs.Controls.{interruptWindowExiting}
 use Rattle.rules.specs.Procedures.{class}
 use Rattle.rules.specs.declared.event.Event.{Event}
 use Rattle.page.specs.Page.{vppr, visr, virr, byteAt, isSet, highest, put}
-use Rattle.model.specs.After.{After}
+use Rattle.runs.specs.After.{After}
 use Rattle.runs.specs.Moves.{Move, retires, moveOf, isDelivered}
 use Rattle.runs.specs.History.{Held, stepOf, member, rest}
 

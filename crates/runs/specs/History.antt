@@ -5,13 +5,13 @@ use mathlib.Core.Bool.{Bool, true, false, _||_}
 use mathlib.Core.List.{List, [], _∷_}
 use lib.Dec.{eqb}
 use Rattle.rules.specs.Answers.{Numbers}
-use Rattle.rules.specs.Controls.{virtualDelivery, fresh}
-use Rattle.rules.specs.declared.controls.Record.{Record}
+use Rattle.processor.specs.Controls.{virtualDelivery, fresh}
+use Rattle.processor.specs.declared.controls.Record.{Record}
 use Rattle.rules.specs.declared.event.Event.{Event}
 use Rattle.rules.specs.declared.event.Event.the-variants.{Entry, Request, MemoryRead, MemoryWrite, ToCr8, FromCr8, Rdmsr, Wrmsr, Boundary}
-use Rattle.model.specs.After.{After}
-use Rattle.model.specs.Step.{step}
-use Rattle.model.specs.Run.{zeroPage}
+use Rattle.runs.specs.After.{After}
+use Rattle.runs.specs.Step.{step}
+use Rattle.runs.specs.Run.{zeroPage}
 use Rattle.runs.specs.Moves.{Move, stays, raises, delivers, retires, moveOf}
 
 -- every entry attempted has virtual-interrupt delivery on; nothing else is asked of an event

@@ -1,3 +1,13 @@
+pub mod After
+pub mod Procedures
+pub mod Entry
+pub mod Memory
+pub mod Cr8Msr
+pub mod Boundary
+pub mod Step
+pub mod Run
+pub mod Condition1
+pub mod Bench
 pub mod Moves
 pub mod Settled
 pub mod History

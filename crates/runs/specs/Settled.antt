@@ -3,10 +3,10 @@ use Prim.Native.Nat.{ℕ, _≤_, _<_}
 use mathlib.Core.Path.{_≡_}
 use mathlib.Core.Bool.{Bool, true, false}
 use mathlib.Core.List.{List}
-use Rattle.rules.specs.Logic.{if_then_else_}
-use Rattle.rules.specs.Controls.{virtualDelivery}
+use Rattle.processor.specs.Logic.{if_then_else_}
+use Rattle.processor.specs.Controls.{virtualDelivery}
 use Rattle.rules.specs.Procedures.{class, evaluated}
-use Rattle.rules.specs.declared.controls.Record.{Record}
+use Rattle.processor.specs.declared.controls.Record.{Record}
 use Rattle.page.specs.Page.{vppr, byteAt}
 
 -- RVI and SVI are one byte each

@@ -1,1 +1,1 @@
-// Theorems over every run of the model. They stand in specs/ (what is stated) and proofs/; there is no code here.
+// What one event leaves, a run over a list of events, and what every run keeps: definitions (specs/) and theorems (proofs/), no code.

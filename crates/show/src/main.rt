@@ -5,8 +5,8 @@ use crate::words::say_requests;
 use crate::words::say_status;
 use model::fresh_record;
 use model::step;
-use rules::controls::Controls;
-use rules::controls::Record;
+use processor::controls::Controls;
+use processor::controls::Record;
 use rules::event::Event;
 
 mod words;

@@ -1,6 +1,6 @@
 -- `model::carry_out` meets its contract: code and definition take the same cases. Assumes nothing.
 use Rattle.model.proofs.Bounds.{byte-vector}
-use Rattle.model.specs.Step.{carriedOut}
+use Rattle.runs.specs.Step.{carriedOut}
 use borrow.Author.Needs.{needs}
 use Rattle.model.proofs.carry_out.Statement.{statement}
 use Rattle.model.proofs.carry_out.Tie as tie

@@ -1,7 +1,7 @@
 -- `model::step` meets its contract: code and definition take the same cases. Assumes nothing.
 use Rattle.model.proofs.Bounds.{event-within}
 use borrow.Author.Tests.{eq-eqb, ne-eqb}
-use Rattle.model.specs.Step.{step}
+use Rattle.runs.specs.Step.{step}
 use borrow.Author.Needs.{needs}
 use Rattle.model.proofs.step.Statement.{statement}
 use Rattle.model.proofs.step.Tie as tie

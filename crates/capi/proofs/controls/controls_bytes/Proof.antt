@@ -1,7 +1,7 @@
 use Prim.Native.Nat.{ℕ}
 use mathlib.Core.Path.{_≡_}
 use mathlib.Core.List.{List}
-use Rattle.rules.specs.declared.controls.Controls.{Controls}
+use Rattle.processor.specs.declared.controls.Controls.{Controls}
 use Rattle.page.specs.Page.{setWord, setLong}
 use Rattle.capi.specs.Records.{controlsBytes}
 use borrow.Author.Needs.{needs}

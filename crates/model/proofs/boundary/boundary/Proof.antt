@@ -1,5 +1,5 @@
 -- `model::boundary::boundary` meets its contract: code and definition take the same cases. Assumes nothing.
-use Rattle.model.specs.Boundary.{boundary}
+use Rattle.runs.specs.Boundary.{boundary}
 use borrow.Author.Needs.{needs}
 use Rattle.model.proofs.boundary.boundary.Statement.{statement}
 use Rattle.model.proofs.boundary.boundary.Tie as tie

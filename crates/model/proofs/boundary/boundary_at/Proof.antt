@@ -1,5 +1,5 @@
 -- `model::boundary::boundary_at` meets its contract: code and definition take the same cases. Assumes nothing.
-use Rattle.model.specs.Boundary.{boundaryAt}
+use Rattle.runs.specs.Boundary.{boundaryAt}
 use borrow.Author.Needs.{needs}
 use Rattle.model.proofs.boundary.boundary_at.Statement.{statement}
 use Rattle.model.proofs.boundary.boundary_at.Tie as tie

@@ -1,5 +1,5 @@
 -- `model::boundary::delivery` meets its contract: code and definition take the same cases. Assumes nothing.
-use Rattle.model.specs.Boundary.{delivery, deliveredRecord}
+use Rattle.runs.specs.Boundary.{delivery, deliveredRecord}
 use borrow.Author.Needs.{needs}
 use Rattle.model.proofs.boundary.delivery.Statement.{statement}
 use Rattle.model.proofs.boundary.delivery.Tie as tie

@@ -1,5 +1,5 @@
 -- `model::boundary::move_to_service` meets its contract: code and definition take the same cases. Assumes nothing.
-use Rattle.model.specs.Boundary.{deliveredPage}
+use Rattle.runs.specs.Boundary.{deliveredPage}
 use borrow.Author.Needs.{needs}
 use Rattle.model.proofs.boundary.move_to_service.Statement.{statement}
 use Rattle.model.proofs.boundary.move_to_service.Tie as tie

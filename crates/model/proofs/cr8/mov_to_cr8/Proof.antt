@@ -1,5 +1,5 @@
 -- `model::cr8::mov_to_cr8` meets its contract: code and definition take the same cases. Assumes nothing.
-use Rattle.model.specs.Cr8Msr.{movToCr8, toCr8By}
+use Rattle.runs.specs.Cr8Msr.{movToCr8, toCr8By}
 use borrow.Author.Needs.{needs}
 use Rattle.model.proofs.cr8.mov_to_cr8.Statement.{statement}
 use Rattle.model.proofs.cr8.mov_to_cr8.Tie as tie

@@ -1,5 +1,5 @@
 -- `model::entry::entered` meets its contract: code and definition take the same cases. Assumes nothing.
-use Rattle.model.specs.Entry.{entered}
+use Rattle.runs.specs.Entry.{entered}
 use borrow.Author.Needs.{needs}
 use Rattle.model.proofs.entry.entered.Statement.{statement}
 use Rattle.model.proofs.entry.entered.Tie as tie

@@ -1,6 +1,6 @@
 -- `model::entry::entry` meets its contract: code and definition take the same cases. Assumes nothing.
 use borrow.Author.Tests.{eq-eqb, ne-eqb}
-use Rattle.model.specs.Entry.{entry}
+use Rattle.runs.specs.Entry.{entry}
 use borrow.Author.Needs.{needs}
 use Rattle.model.proofs.entry.entry.Statement.{statement}
 use Rattle.model.proofs.entry.entry.Tie as tie

@@ -1,6 +1,6 @@
 -- `model::entry::request` meets its contract: code and definition take the same cases. Assumes nothing.
-use Rattle.model.specs.Entry.{request}
-use Rattle.model.specs.Procedures.{requestedPage}
+use Rattle.runs.specs.Entry.{request}
+use Rattle.runs.specs.Procedures.{requestedPage}
 use borrow.Author.Needs.{needs}
 use Rattle.model.proofs.entry.request.Statement.{statement}
 use Rattle.model.proofs.entry.request.Tie as tie

@@ -1,5 +1,5 @@
 -- `model::memory::clear_three` meets its contract: code and definition take the same cases. Assumes nothing.
-use Rattle.model.specs.Memory.{clearThree}
+use Rattle.runs.specs.Memory.{clearThree}
 use borrow.Author.Needs.{needs}
 use Rattle.model.proofs.memory.clear_three.Statement.{statement}
 use Rattle.model.proofs.memory.clear_three.Tie as tie

@@ -1,5 +1,5 @@
 -- `model::memory::follow` meets its contract: code and definition take the same cases. Assumes nothing.
-use Rattle.model.specs.Memory.{followBy}
+use Rattle.runs.specs.Memory.{followBy}
 use borrow.Author.Needs.{needs}
 use Rattle.model.proofs.memory.follow.Statement.{statement}
 use Rattle.model.proofs.memory.follow.Tie as tie

@@ -1,5 +1,5 @@
 -- `model::memory::memory_read` meets its contract: code and definition take the same cases. Assumes nothing.
-use Rattle.model.specs.Memory.{memoryRead, readBy}
+use Rattle.runs.specs.Memory.{memoryRead, readBy}
 use borrow.Author.Needs.{needs}
 use Rattle.model.proofs.memory.memory_read.Statement.{statement}
 use Rattle.model.proofs.memory.memory_read.Tie as tie

@@ -1,5 +1,5 @@
 -- `model::memory::memory_write` meets its contract: code and definition take the same cases. Assumes nothing.
-use Rattle.model.specs.Memory.{memoryWrite, writeBy}
+use Rattle.runs.specs.Memory.{memoryWrite, writeBy}
 use borrow.Author.Needs.{needs}
 use Rattle.model.proofs.memory.memory_write.Statement.{statement}
 use Rattle.model.proofs.memory.memory_write.Tie as tie

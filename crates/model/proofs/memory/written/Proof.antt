@@ -1,5 +1,5 @@
 -- `model::memory::written` meets its contract: code and definition take the same cases. Assumes nothing.
-use Rattle.model.specs.Memory.{written}
+use Rattle.runs.specs.Memory.{written}
 use borrow.Author.Needs.{needs}
 use Rattle.model.proofs.memory.written.Statement.{statement}
 use Rattle.model.proofs.memory.written.Tie as tie

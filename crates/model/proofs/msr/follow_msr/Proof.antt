@@ -1,5 +1,5 @@
 -- `model::msr::follow_msr` meets its contract: code and definition take the same cases. Assumes nothing.
-use Rattle.model.specs.Cr8Msr.{writeMsrBy}
+use Rattle.runs.specs.Cr8Msr.{writeMsrBy}
 use borrow.Author.Needs.{needs}
 use Rattle.model.proofs.msr.follow_msr.Statement.{statement}
 use Rattle.model.proofs.msr.follow_msr.Tie as tie

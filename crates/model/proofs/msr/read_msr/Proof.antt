@@ -1,5 +1,5 @@
 -- `model::msr::read_msr` meets its contract: code and definition take the same cases. Assumes nothing.
-use Rattle.model.specs.Cr8Msr.{readMsr}
+use Rattle.runs.specs.Cr8Msr.{readMsr}
 use Rattle.model.proofs.msr.read_msr.Statement.{statement}
 use Rattle.model.proofs.msr.read_msr.Tie as tie
 

@@ -1,5 +1,5 @@
 -- `model::msr::write_msr` meets its contract: code and definition take the same cases. Assumes nothing.
-use Rattle.model.specs.Cr8Msr.{writeMsr}
+use Rattle.runs.specs.Cr8Msr.{writeMsr}
 use borrow.Author.Needs.{needs}
 use Rattle.model.proofs.msr.write_msr.Statement.{statement}
 use Rattle.model.proofs.msr.write_msr.Tie as tie

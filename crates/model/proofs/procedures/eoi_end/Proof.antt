@@ -1,5 +1,5 @@
 -- `model::procedures::eoi_end` meets its contract: code and definition take the same cases. Assumes nothing.
-use Rattle.model.specs.Procedures.{eoiEnd}
+use Rattle.runs.specs.Procedures.{eoiEnd}
 use borrow.Author.Needs.{needs}
 use Rattle.model.proofs.procedures.eoi_end.Statement.{statement}
 use Rattle.model.proofs.procedures.eoi_end.Tie as tie

@@ -1,5 +1,5 @@
 -- `model::procedures::eoi_virtualization` meets its contract: code and definition take the same cases. Assumes nothing.
-use Rattle.model.specs.Procedures.{eoiVirtualization, retiredPage, retiredRecord}
+use Rattle.runs.specs.Procedures.{eoiVirtualization, retiredPage, retiredRecord}
 use borrow.Author.Needs.{needs}
 use Rattle.model.proofs.procedures.eoi_virtualization.Statement.{statement}
 use Rattle.model.proofs.procedures.eoi_virtualization.Tie as tie

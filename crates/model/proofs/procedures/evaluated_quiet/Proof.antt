@@ -1,5 +1,5 @@
 -- `model::procedures::evaluated_quiet` meets its contract: code and definition take the same cases. Assumes nothing.
-use Rattle.model.specs.Procedures.{evaluatedQuiet}
+use Rattle.runs.specs.Procedures.{evaluatedQuiet}
 use Rattle.model.proofs.procedures.evaluated_quiet.Statement.{statement}
 use Rattle.model.proofs.procedures.evaluated_quiet.Tie as tie
 

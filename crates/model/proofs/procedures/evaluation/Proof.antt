@@ -1,5 +1,5 @@
 -- `model::procedures::evaluation` meets its contract: code and definition take the same cases. Assumes nothing.
-use Rattle.model.specs.Procedures.{evaluation}
+use Rattle.runs.specs.Procedures.{evaluation}
 use Rattle.model.proofs.procedures.evaluation.Statement.{statement}
 use Rattle.model.proofs.procedures.evaluation.Tie as tie
 

@@ -1,5 +1,5 @@
 -- `model::procedures::ppr_virtualization` meets its contract: code and definition take the same cases. Assumes nothing.
-use Rattle.model.specs.Procedures.{pprVirtualization}
+use Rattle.runs.specs.Procedures.{pprVirtualization}
 use borrow.Author.Needs.{needs}
 use Rattle.model.proofs.procedures.ppr_virtualization.Statement.{statement}
 use Rattle.model.proofs.procedures.ppr_virtualization.Tie as tie

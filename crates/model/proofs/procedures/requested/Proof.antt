@@ -1,5 +1,5 @@
 -- `model::procedures::requested` meets its contract: code and definition take the same cases. Assumes nothing.
-use Rattle.model.specs.Procedures.{requestedRecord}
+use Rattle.runs.specs.Procedures.{requestedRecord}
 use Rattle.model.proofs.procedures.requested.Statement.{statement}
 use Rattle.model.proofs.procedures.requested.Tie as tie
 

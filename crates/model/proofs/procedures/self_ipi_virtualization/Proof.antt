@@ -1,5 +1,5 @@
 -- `model::procedures::self_ipi_virtualization` meets its contract: code and definition take the same cases. Assumes nothing.
-use Rattle.model.specs.Procedures.{selfIpiVirtualization, requestedPage}
+use Rattle.runs.specs.Procedures.{selfIpiVirtualization, requestedPage}
 use borrow.Author.Needs.{needs}
 use Rattle.model.proofs.procedures.self_ipi_virtualization.Statement.{statement}
 use Rattle.model.proofs.procedures.self_ipi_virtualization.Tie as tie

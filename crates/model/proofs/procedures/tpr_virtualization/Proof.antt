@@ -1,5 +1,5 @@
 -- `model::procedures::tpr_virtualization` meets its contract: code and definition take the same cases. Assumes nothing.
-use Rattle.model.specs.Procedures.{tprVirtualization}
+use Rattle.runs.specs.Procedures.{tprVirtualization}
 use borrow.Author.Needs.{needs}
 use Rattle.model.proofs.procedures.tpr_virtualization.Statement.{statement}
 use Rattle.model.proofs.procedures.tpr_virtualization.Tie as tie

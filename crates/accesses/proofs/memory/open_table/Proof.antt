@@ -1,0 +1,9 @@
+-- `open_table` meets its contract: the test passes at every offset of the table.
+use Rattle.accesses.proofs.memory.open_table.Statement.{statement}
+use Rattle.accesses.proofs.memory.open_table.Tie as tie
+
+returns : tie.Need-returns
+returns c = tt
+
+pub open-table-spec : {M : Type 1} → statement M
+open-table-spec = tie.close (tie.spec returns)

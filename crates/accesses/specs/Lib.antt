@@ -1,0 +1,3 @@
+pub mod Memory
+pub mod Marks
+pub mod Cr8Msr

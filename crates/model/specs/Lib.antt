@@ -1,9 +1,0 @@
-pub mod After
-pub mod Procedures
-pub mod Entry
-pub mod Memory
-pub mod Cr8Msr
-pub mod Boundary
-pub mod Step
-pub mod Run
-pub mod Bench

@@ -1,0 +1,10 @@
+-- `processor::controls::Controls::cr8_store_exiting` meets its contract: code and definition are one expression. Assumes nothing.
+use mathlib.Core.Path.{refl}
+use Rattle.processor.proofs.controls.Controls.cr8_store_exiting.Statement.{statement}
+use Rattle.processor.proofs.controls.Controls.cr8_store_exiting.Tie as tie
+
+returns : tie.Need-returns
+returns c = refl
+
+pub cr8-store-exiting-spec : {M : Type 1} → statement M
+cr8-store-exiting-spec = tie.close (tie.spec returns)

@@ -1,0 +1,71 @@
+// The 256-bit registers of a page.
+ghost use mathlib.Core.Path.{_≡_};
+ghost use Prim.Native.Nat.{_%_};
+ghost use Rattle.page.specs.Page.{vectorByte, putBit, putVector, highestBit, highest};
+use page::bytes::word_at;
+
+fn vector_byte(vector: u8) -> usize
+    ensures { λ r. ⌜ r ≡ vectorByte vector ⌝ }
+{
+    let v = vector as usize;
+    v / 32 * 16 + v % 32 / 8
+}
+
+// A byte with one bit on, or off.
+fn put_bit(byte: u8, vector: u8, on: bool) -> u8
+    ensures { λ r. ⌜ r ≡ putBit byte (vector % 8) on ⌝ }
+{
+    let mask = 1u8 << (vector % 8);
+    if on {
+        return byte | mask;
+    }
+    byte & !mask
+}
+
+// The vector's bit on, or off, in a register that starts where the slice does.
+fn put_in(register: &mut [u8], vector: u8, on: bool)
+    ensures { λ _. ⌜ now (register .exit) ≡ putVector (now (register .entry)) 0 vector on ⌝ }
+{
+    let at = vector_byte(vector);
+    if at < register.len() {
+        register[at] = put_bit(register[at], vector, on);
+    }
+}
+
+// The vector's bit on, or off, in the page's register at the base.
+pub fn put_vector(page: &mut [u8], base: usize, vector: u8, on: bool)
+    ensures { λ _. ⌜ now (page .exit) ≡ putVector (now (page .entry)) base vector on ⌝ }
+{
+    if base <= page.len() {
+        put_in(&mut page[base..], vector, on);
+    }
+}
+
+// The highest set bit of a word, counted from 1, found bit by bit from the top; 0 where none is set.
+fn highest_bit(word: u32) -> u32
+    ensures { λ r. ⌜ r ≡ highestBit word 32 ⌝ }
+{
+    let mut n: u32 = 32;
+    while 0 < n {
+        if (word >> (n - 1)) % 2 == 1 {
+            return n;
+        }
+        n = n - 1;
+    }
+    0
+}
+
+// The highest set vector of the page's register at the base, 0 where it is empty: its eight words from the top.
+pub fn highest_vector(page: &[u8], base: u16) -> u8
+    ensures { λ r. ⌜ r ≡ highest (now (page .entry)) base ⌝ }
+{
+    let mut left: u32 = 8;
+    while 0 < left {
+        let found = highest_bit(word_at(page, base as u32 + 16 * (left - 1)));
+        if 0 < found {
+            return ((32 * (left - 1) + found - 1) % 256) as u8;
+        }
+        left = left - 1;
+    }
+    0
+}

@@ -1,9 +1,0 @@
--- `open_table` meets its contract: the test passes at every offset of the table.
-use Rattle.rules.proofs.memory.open_table.Statement.{statement}
-use Rattle.rules.proofs.memory.open_table.Tie as tie
-
-returns : tie.Need-returns
-returns c = tt
-
-pub open-table-spec : {M : Type 1} → statement M
-open-table-spec = tie.close (tie.spec returns)

@@ -1,0 +1,14 @@
+-- `rules::procedures::below_threshold` meets its contract: code and definition are one expression. Assumes nothing.
+use mathlib.Core.Path.{refl}
+use borrow.Author.Needs.{needs}
+use Rattle.rules.proofs.procedures.below_threshold.Statement.{statement}
+use Rattle.rules.proofs.procedures.below_threshold.Tie as tie
+
+cast-result : tie.Need-cast-result
+cast-result c = search needs
+
+returns : tie.Need-returns
+returns c = refl
+
+pub below-threshold-spec : {M : Type 1} → statement M
+below-threshold-spec = tie.close (tie.spec cast-result returns)

@@ -1,0 +1,206 @@
+-- Document 01, "Bench cases" K1 to K12, as rows of one table: where a row starts, what is done, and what must come of it.
+use Prim.Native.Nat.{ℕ}
+use mathlib.Core.Bool.{Bool, true, false, _&&_, Bool·beq}
+use mathlib.Core.List.{List, [], _∷_, _++_}
+use lib.Dec.{eqb}
+use Rattle.rules.specs.Answers.{Numbers, numbers}
+use Rattle.processor.specs.Controls.{fresh}
+use Rattle.processor.specs.declared.controls.Controls.{Controls}
+use Rattle.processor.specs.declared.controls.Record.{Record}
+use Rattle.rules.specs.declared.event.Event.{Event}
+use Rattle.rules.specs.declared.event.Event.the-variants.{Entry, Request, MemoryRead, MemoryWrite, ToCr8, Boundary}
+use Rattle.page.specs.Page.{vtpr, setByte, wordAt}
+use Rattle.runs.specs.After.{After}
+use Rattle.runs.specs.Procedures.{pprVirtualization}
+use Rattle.runs.specs.Run.{run, zeroPage}
+
+-- a word of the page: its offset and its value
+pub record Word : Type 0 where
+  pub at : ℕ
+  pub value : ℕ
+
+-- a list of events, or PPR virtualization alone
+pub data Deed : Type 0 where
+  events : List Event → Deed
+  pprAlone : Deed
+
+-- what a deed leaves: the answers in order, the record and the page
+pub record End : Type 0 where
+  pub answers : List Numbers
+  pub state : Record
+  pub page : List ℕ
+
+abbrev pub endOf : List ℕ → Record → List After → End
+endOf p r [] = record { answers = []; state = r; page = p }
+endOf p r (a ∷ rest) =
+    let e = endOf (a .page) (a .state) rest in
+    record { answers = a .answer ∷ e .answers; state = e .state; page = e .page }
+
+abbrev pub done : List ℕ → Record → Deed → End
+done p r (events es) = endOf p r (run p r es)
+done p r pprAlone = record { answers = []; state = r; page = pprVirtualization p r }
+
+-- a row: the start; the deed; the answers' numbers; mode, RVI, SVI and recognition at the end; words of the page at the end
+pub record Row : Type 0 where
+  pub page : List ℕ
+  pub state : Record
+  pub deed : Deed
+  pub answers : List Numbers
+  pub guest : Bool
+  pub rvi : ℕ
+  pub svi : ℕ
+  pub recognised : Bool
+  pub words : List Word
+
+abbrev pub sameNumbers : Numbers → Numbers → Bool
+sameNumbers a b = eqb (a .answer) (b .answer) && eqb (a .first) (b .first) && eqb (a .second) (b .second)
+
+abbrev pub sameAnswers : List Numbers → List Numbers → Bool
+sameAnswers [] [] = true
+sameAnswers [] (b ∷ bs) = false
+sameAnswers (a ∷ rest) [] = false
+sameAnswers (a ∷ rest) (b ∷ bs) = sameNumbers a b && sameAnswers rest bs
+
+abbrev pub hasWords : List ℕ → List Word → Bool
+hasWords p [] = true
+hasWords p (w ∷ ws) = eqb (wordAt p (w .at)) (w .value) && hasWords p ws
+
+-- the row holds of the definitions
+abbrev pub endHolds : End → Row → Bool
+endHolds e row =
+    sameAnswers (e .answers) (row .answers) && Bool·beq (e .state .guest) (row .guest) && eqb (e .state .rvi) (row .rvi) &&
+    eqb (e .state .svi) (row .svi) && Bool·beq (e .state .recognised) (row .recognised) && hasWords (e .page) (row .words)
+
+unfoldable pub rowHolds : Row → Bool
+unfolding run
+rowHolds row = endHolds (done (row .page) (row .state) (row .deed)) row
+
+abbrev pub rowsHold : List Row → Bool
+rowsHold [] = true
+rowsHold (row ∷ rows) = rowHolds row && rowsHold rows
+
+abbrev word : ℕ → ℕ → Word
+word at value = record { at = at; value = value }
+
+abbrev pub controls : ℕ → ℕ → Controls
+controls flags threshold =
+    record { flags = flags; threshold = threshold; «eoi_exit_0» = 0; «eoi_exit_1» = 0; «eoi_exit_2» = 0; «eoi_exit_3» = 0 }
+
+-- "V" is controls 0, 4, 5 on; "M" adds control 1; "R" adds control 3 to M.
+abbrev pub controlsV : Controls
+controlsV = controls 0x31 0
+
+abbrev pub controlsM : Controls
+controlsM = controls 0x33 0
+
+abbrev pub controlsR : Controls
+controlsR = controls 0x3b 0
+
+-- in guest mode with the values given and zero elsewhere
+abbrev guestWith : Controls → ℕ → Record
+guestWith c svi = record { guest = true; rvi = 0; svi = svi; recognised = false; controls = c }
+
+-- a page that is zero but for VTPR
+abbrev vtprPage : ℕ → List ℕ
+vtprPage value = setByte zeroPage vtpr value
+
+abbrev quiet : Numbers
+quiet = numbers 6 0 0
+
+abbrev delivered : ℕ → Numbers
+delivered vector = numbers 5 vector 0
+
+abbrev exit : ℕ → ℕ → Numbers
+exit reason qualification = numbers 4 reason qualification
+
+abbrev pub openBoundary : Event
+openBoundary = Boundary true false false 0
+
+-- K1's events under some controls, and their answers
+abbrev afterK1 : Controls → List Event
+afterK1 c = Request 0x60 ∷ Entry c ∷ openBoundary ∷ []
+
+abbrev answersK1 : List Numbers
+answersK1 = quiet ∷ quiet ∷ delivered 0x60 ∷ []
+
+abbrev write300 : ℕ → Event
+write300 value = MemoryWrite 0x300 4 false false value
+
+-- a row that starts fresh
+abbrev fromFresh : List Event → List Numbers → Bool → ℕ → ℕ → Bool → List Word → Row
+fromFresh es answers guest rvi svi recognised words =
+    record { page = zeroPage; state = fresh; deed = events es; answers = answers; guest = guest; rvi = rvi; svi = svi; recognised = recognised; words = words }
+
+-- a row of one event in guest mode
+abbrev inGuest : Controls → List ℕ → Event → Numbers → Bool → List Word → Row
+inGuest c p e a guest words =
+    record { page = p; state = guestWith c 0; deed = events (e ∷ []); answers = a ∷ []; guest = guest; rvi = 0; svi = 0; recognised = false; words = words }
+
+abbrev pub k1 : Row
+k1 = fromFresh (afterK1 controlsV) answersK1 true 0 0x60 false (word 0x130 1 ∷ word 0x230 0 ∷ word 0x0a0 0x60 ∷ [])
+
+abbrev pub k2 : Row
+k2 =
+    fromFresh (afterK1 controlsM ++ (write300 0x0004_0071 ∷ openBoundary ∷ [])) (answersK1 ++ (quiet ∷ delivered 0x71 ∷ []))
+    true 0 0x71 false (word 0x130 0x0002_0001 ∷ word 0x0a0 0x70 ∷ [])
+
+abbrev pub k3 : Row
+k3 =
+    fromFresh (afterK1 controlsM ++ (write300 0x0004_0071 ∷ openBoundary ∷ MemoryWrite 0x0b0 4 false false 0 ∷ []))
+    (answersK1 ++ (quiet ∷ delivered 0x71 ∷ quiet ∷ [])) true 0 0x60 false (word 0x130 1 ∷ word 0x0a0 0x60 ∷ [])
+
+-- one write to VICR_LO after K1 under M
+abbrev afterK1Write : ℕ → Numbers → Bool → ℕ → Bool → List Word → Row
+afterK1Write value a guest rvi recognised words =
+    fromFresh (afterK1 controlsM ++ (write300 value ∷ [])) (answersK1 ++ (a ∷ [])) guest rvi 0x60 recognised words
+
+abbrev pub k4 : Row
+k4 = afterK1Write 0x0004_0065 quiet true 0x65 false []
+
+-- VIRR's eight words, all 0
+abbrev noRequest : List Word
+noRequest =
+    word 0x200 0 ∷ word 0x210 0 ∷ word 0x220 0 ∷ word 0x230 0 ∷ word 0x240 0 ∷ word 0x250 0 ∷ word 0x260 0 ∷ word 0x270 0 ∷ []
+
+abbrev pub k5 : Row
+k5 = afterK1Write 0x0004_2071 (exit 56 0x300) false 0 false (word 0x300 0x0004_2071 ∷ noRequest)
+
+abbrev pub k6 : List Row
+k6 = afterK1Write 0x0004_0871 quiet true 0x71 true (word 0x230 0x0002_0000 ∷ []) ∷
+    afterK1Write 0x0004_4071 quiet true 0x71 true (word 0x230 0x0002_0000 ∷ []) ∷ []
+
+abbrev pub k7 : List Row
+k7 = afterK1Write 0x0004_000f (exit 56 0x300) false 0 false [] ∷ afterK1Write 0x0004_0010 quiet true 0x10 false [] ∷ []
+
+-- PPR virtualization alone: VTPR and SVI, and the VPPR that comes of them
+abbrev pprRow : ℕ → ℕ → ℕ → Row
+pprRow vtprValue svi vpprValue =
+    record { page = vtprPage vtprValue; state = guestWith controlsV svi; deed = pprAlone; answers = []; guest = true; rvi = 0; svi = svi; recognised = false; words = word 0x0a0 vpprValue ∷ [] }
+
+abbrev pub k8 : List Row
+k8 = pprRow 0x6f 0x60 0x6f ∷ pprRow 0x5f 0x63 0x60 ∷ []
+
+abbrev shadowOnly : Controls
+shadowOnly = controls 0x01 5
+
+abbrev pub k9 : List Row
+k9 =
+    inGuest shadowOnly (vtprPage 0x50) (ToCr8 4 0) (exit 43 0) false (word 0x080 0x40 ∷ []) ∷
+    inGuest shadowOnly (vtprPage 0x50) (ToCr8 5 0) quiet true (word 0x080 0x50 ∷ []) ∷ []
+
+abbrev pub k10 : List Row
+k10 =
+    inGuest controlsR zeroPage (MemoryRead 0x083 1 false false) (numbers 1 0 0) true [] ∷
+    inGuest controlsM zeroPage (MemoryRead 0x083 1 false false) (exit 44 0x083) false [] ∷ []
+
+abbrev pub k11 : List Row
+k11 =
+    inGuest controlsR zeroPage (MemoryWrite 0x082 2 false false 0xabcd) (exit 56 0x082) false (word 0x080 0xabcd_0000 ∷ []) ∷
+    inGuest controlsR zeroPage (MemoryWrite 0x0a0 4 false false 1) (exit 44 0x10a0) false (word 0x0a0 0 ∷ []) ∷ []
+
+abbrev pub k12 : Row
+k12 = fromFresh (Request 0 ∷ Entry controlsV ∷ []) (quiet ∷ quiet ∷ []) true 0 0 false (word 0x200 1 ∷ [])
+
+-- K1 to K12
+abbrev pub benchRows : List Row
+benchRows = (k1 ∷ k2 ∷ k3 ∷ k4 ∷ k5 ∷ []) ++ k6 ++ k7 ++ k8 ++ k9 ++ k10 ++ k11 ++ (k12 ∷ [])
