@@ -3,13 +3,12 @@
 use Prim.Native.Nat.{ℕ, _+_, _/_, _<_, _≤_, _%_}
 use native.Mathlib.Omega.{arith}
 use mathlib.Core.Path.{_≡_, refl, sym, _∙_}
-use mathlib.Core.Bool.{Bool, true, false, _&&_, _||_, Bool·beq}
+use mathlib.Core.Bool.{Bool, true, false, _&&_, Bool·beq}
 use mathlib.Core.List.{List, [], _∷_}
 use lib.Dec.{T, eqb, leb, ltb, leb→le}
 use lib.ListN.{getD}
 use borrow.Author.Tests.{le-ltb, ne-eqb}
-use Rattle.processor.specs.Logic.{any, allBelow}
-use Rattle.accesses.specs.Memory.{openTpr, openDelivery, openRead, openWrite, inRegister, inRegisters, readRegisters, writeRegisters}
+use Rattle.accesses.specs.Memory.{openTpr, openDelivery, openRead, inRegister, inRegisters, readRegisters, writeRegisters}
 use Rattle.accesses.specs.Marks.{Marked, markedFirst, markedByte, markedTest, carriesRule}
 use Rattle.processor.proofs.Tests.{below, same, and-left, and-right, never}
 

@@ -1,6 +1,6 @@
 -- Document 01, "Memory accesses": what an access comes to, the table of open offsets, and what follows a redirected write.
 use Prim.Native.Nat.{ℕ, zero, suc, _+_, _%_}
-use mathlib.Core.Bool.{Bool, true, false, not, _&&_, _||_}
+use mathlib.Core.Bool.{Bool, not, _&&_, _||_}
 use mathlib.Core.List.{List, [], _∷_, _++_}
 use lib.Dec.{eqb, leb, ltb}
 use Rattle.processor.specs.Logic.{if_then_else_, bits, any}

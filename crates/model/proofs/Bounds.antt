@@ -1,9 +1,8 @@
 -- What the bounds say where an event is carried out. Assumes nothing.
 use Prim.Native.Nat.{ℕ, _%_, _<_}
 use native.Mathlib.Omega.{arith}
-use mathlib.Core.Path.{_≡_, refl, sym, _∙_, ap}
-use mathlib.Core.Bool.{Bool, true, false, not, _&&_}
-use lib.Dec.{ltb}
+use mathlib.Core.Path.{_≡_, sym, _∙_, ap}
+use mathlib.Core.Bool.{Bool, true, false, not}
 use borrow.Author.Tests.{ltb-true, not-false}
 use Rattle.rules.specs.Events.{eventInBounds, inBounds}
 use Rattle.processor.specs.Controls.{flagsInBounds}

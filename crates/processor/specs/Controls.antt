@@ -1,6 +1,6 @@
 -- Document 01, "Processor record and controls".
 use Prim.Native.Nat.{ℕ, _/_, _%_, _^_}
-use mathlib.Core.Bool.{Bool, true, false}
+use mathlib.Core.Bool.{Bool, false}
 use lib.Dec.{eqb, ltb}
 use Rattle.processor.specs.Logic.{if_then_else_, bit}
 use Rattle.processor.specs.declared.controls.Controls.{Controls}

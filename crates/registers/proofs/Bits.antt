@@ -1,7 +1,7 @@
 -- One bit of a byte by a mask: computed at every byte and bit. Assumes nothing.
 use Prim.Native.Nat.{ℕ, _*_, _-_, _%_, _^_, _<_}
 use mathlib.Core.Path.{_≡_}
-use mathlib.Core.Bool.{Bool, true, false}
+use mathlib.Core.Bool.{true, false}
 use lib.Dec.{T, eqb, eqb→eq}
 use lib.Bits.{bitOr, bitAnd}
 use Rattle.processor.specs.Logic.{allBelow}

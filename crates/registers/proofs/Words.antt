@@ -1,15 +1,15 @@
 -- Document 01's own words for a vector's place: bit (v mod 32) of the word at the register's base + 16 × floor(v/32). The definitions
 -- take that bit from its byte; here the two are shown to be one. Assumes nothing.
 use Prim.Native.Nat.{ℕ, zero, suc, _+_, _-_, _*_, _/_, _%_, _^_, _<_}
-use native.Mathlib.Nat.{add-assoc, add-zero, mul-assoc, div-one, add-mul-div-left, add-mul-mod-self-left, div-div-eq-div-mul, not-suc-le-zero}
+use native.Mathlib.Nat.{add-assoc, add-zero, mul-assoc, div-one, add-mul-div-left, add-mul-mod-self-left, div-div-eq-div-mul}
 use native.Mathlib.Omega.{arith}
-use mathlib.Core.Path.{_≡_, refl, sym, _∙_, ap}
+use mathlib.Core.Path.{_≡_, sym, _∙_, ap}
 use mathlib.Core.List.{List}
-use lib.Dec.{T, eqb, eqb→eq}
+use lib.Dec.{eqb, eqb→eq}
 use lib.Pow.{pow-pos}
-use Rattle.processor.specs.Logic.{bit, allBelow}
+use Rattle.processor.specs.Logic.{bit}
 use Rattle.processor.proofs.Tests.{below}
-use Rattle.page.specs.Page.{byteAt, wordAt, vectorByte, isSet}
+use Rattle.page.specs.Page.{byteAt, wordAt, isSet}
 
 -- a bit of the low byte, whatever lies above it
 halves : (i : ℕ) → i < 8 → 256 ≡ 2 ^ i * (2 * 2 ^ (7 - i))

@@ -1,5 +1,4 @@
 -- An answer's numbers are one to one: an answer is read back from them. Assumes nothing.
-use Prim.Native.Nat.{ℕ}
 use mathlib.Core.Path.{_≡_, refl, sym, _∙_, ap}
 use lib.Dec.{eqb}
 use Rattle.processor.specs.Logic.{if_then_else_}

@@ -1,5 +1,5 @@
 -- Document 01, "Entry and request": the checks, and when exit 43 follows at once.
-use Prim.Native.Nat.{ℕ, _/_}
+use Prim.Native.Nat.{ℕ}
 use mathlib.Core.Bool.{Bool, not, _&&_, _||_}
 use lib.Dec.{ltb}
 use Rattle.processor.specs.Logic.{if_then_else_}

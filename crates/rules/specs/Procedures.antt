@@ -1,5 +1,5 @@
 -- Document 01, "The five procedures" and "Boundary": what each of them decides from numbers alone.
-use Prim.Native.Nat.{ℕ, _/_, _%_, _*_, max}
+use Prim.Native.Nat.{ℕ, _/_, _%_, _*_}
 use mathlib.Core.Bool.{Bool, not, _&&_}
 use lib.Dec.{leb, ltb}
 use Rattle.processor.specs.Logic.{if_then_else_}

@@ -13,9 +13,8 @@ use Rattle.runs.specs.Memory.{readBy, memoryRead, clearThree, followBy, 
 use Rattle.runs.specs.Cr8Msr.{toCr8By, movToCr8, fromCr8By, movFromCr8, readMsr, writeMsrBy, writeMsr}
 use Rattle.runs.specs.Boundary.{deliveredPage, deliveredRecord, delivery, boundaryAt, boundary}
 use Rattle.runs.specs.Step.{carriedOut, step}
-use Rattle.runs.specs.Run.{run}
 use Rattle.runs.specs.Bench.{rowHolds, rowsHold, benchRows}
 
 pub every-row-holds : T (rowsHold benchRows)
-unfolding eoiExitWord valueInBounds eventInBounds rootOnly allowed failingCheck openOffset memoryAccess readQualification writeFollowing cr8Access wrmsrFollowing wrmsr ppr larger halfAt wordAt longAt readAt setHalf setWord setLong storeAt isSet putVector highestBelow highest pprVirtualization evaluation evaluatedQuiet tprVirtualization retiredPage retiredRecord eoiEnd eoiVirtualization requestedPage requestedRecord selfIpiVirtualization entered entry request readBy memoryRead clearThree followBy written writeBy memoryWrite toCr8By movToCr8 fromCr8By movFromCr8 readMsr writeMsrBy writeMsr deliveredPage deliveredRecord delivery boundaryAt boundary carriedOut step run rowHolds
+unfolding eoiExitWord valueInBounds eventInBounds rootOnly allowed failingCheck openOffset memoryAccess readQualification writeFollowing cr8Access wrmsrFollowing wrmsr ppr larger halfAt wordAt longAt readAt setHalf setWord setLong storeAt isSet putVector highestBelow highest pprVirtualization evaluation evaluatedQuiet tprVirtualization retiredPage retiredRecord eoiEnd eoiVirtualization requestedPage requestedRecord selfIpiVirtualization entered entry request readBy memoryRead clearThree followBy written writeBy memoryWrite toCr8By movToCr8 fromCr8By movFromCr8 readMsr writeMsrBy writeMsr deliveredPage deliveredRecord delivery boundaryAt boundary carriedOut step rowHolds
 every-row-holds = tt

@@ -2,26 +2,25 @@
 use Prim.Native.Nat.{ℕ, zero, suc, _≤_, _<_}
 use native.Mathlib.Omega.{arith}
 use mathlib.Core.Path.{_≡_, refl, sym, _∙_, ap, subst}
-use mathlib.Core.Bool.{Bool, true, false, not, _&&_, true≢false, false≢true}
+use mathlib.Core.Bool.{Bool, true, false, not, false≢true}
 use mathlib.Core.List.{List, [], _∷_}
-use lib.Dec.{T, eqb, ltb, lit<, T-not}
-use lib.ListN.{length, getD, replicate, length-replicate}
+use lib.Dec.{T, ltb, lit<}
+use lib.ListN.{getD, replicate, length-replicate}
 use borrow.Author.Tests.{ltb-true}
-use Rattle.processor.specs.Logic.{if_then_else_, allBelow}
-use Rattle.processor.specs.Controls.{interruptWindowExiting, fresh}
-use Rattle.rules.specs.Procedures.{class, evaluated, larger}
-use Rattle.processor.specs.declared.controls.Record.{Record}
+use Rattle.processor.specs.Logic.{allBelow}
+use Rattle.processor.specs.Controls.{interruptWindowExiting}
+use Rattle.rules.specs.Procedures.{class, larger}
 use Rattle.rules.specs.declared.event.Event.{Event}
 use Rattle.processor.proofs.Tests.{below, right}
 use Rattle.page.specs.Page.{vppr, visr, virr, byteAt, isSet, highestBelow, highest, IsPage, put}
-use Rattle.registers.proofs.Top.{top, highest-top, top-ext, top-raise}
+use Rattle.registers.proofs.Top.{highest-top, top-ext, top-raise}
 use Rattle.registers.proofs.Registers.{highest-ext, highest-byte}
 use Rattle.runs.specs.After.{After}
-use Rattle.runs.specs.Run.{zeroPage}
-use Rattle.runs.specs.Moves.{Move, stays, raises, delivers, retires, moveOf, Moved, Deliverable}
+use Rattle.runs.specs.Moves.{Move, stays, raises, delivers, retires, moveOf, Moved}
 use Rattle.runs.specs.Settled.{ByteRecord, Settled}
-use Rattle.runs.specs.History.{deliveryOn, AllOn, none, more, Held, start, stepOf, heldAfter, after, answers, served, inService, member, rest}
-use Rattle.runs.proofs.Laws.{laws, moves, settles}
+use Rattle.runs.specs.Run.{zeroPage, Held, start, stepOf, heldAfter, after, answers}
+use Rattle.runs.specs.History.{deliveryOn, AllOn, none, more, served, inService, member}
+use Rattle.runs.proofs.Laws.{laws}
 use Rattle.runs.proofs.Leaves.{Good}
 use Rattle.runs.proofs.Ladder.{Ladder, foot, rung, front, ladder-top, pushed, popped, behind}
 

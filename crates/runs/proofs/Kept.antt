@@ -1,17 +1,16 @@
 -- Pages that agree in their request and service bits, and in VPPR too, and which stores keep that. Assumes nothing.
 use Prim.Native.Nat.{ℕ, _+_, _/_, _%_, _≤_, _<_}
-use native.Mathlib.Nat.{add-assoc}
 use native.Mathlib.Omega.{arith}
-use mathlib.Core.Path.{_≡_, refl, sym, _∙_, ap, subst}
+use mathlib.Core.Path.{_≡_, refl, sym, _∙_, ap}
 use mathlib.Core.Bool.{Bool, true, false, not, _&&_, _||_, true≢false}
 use mathlib.Core.Logic.{_⊎_, inl, inr, ⊎-elim}
 use mathlib.Core.List.{List}
-use lib.Dec.{T, eqb, leb, ltb, lit<, lit≤}
-use lib.ListN.{length, getD, set, length-set}
+use lib.Dec.{eqb, leb, ltb, lit<, lit≤}
+use lib.ListN.{length, set, length-set}
 use lib.Seq.{getD-set-same, getD-set-other, set-out}
 use borrow.Author.Tests.{eqb-true, eqb-false, ltb-true, ltb-false, leb-true}
 use Rattle.processor.proofs.Tests.{left, right}
-use Rattle.page.specs.Page.{vppr, visr, virr, byteAt, setByte, setHalf, setWord, setLong, vectorByte, isSet, IsPage}
+use Rattle.page.specs.Page.{vppr, visr, virr, byteAt, setByte, setHalf, setWord, vectorByte, isSet, IsPage}
 use Rattle.registers.proofs.Registers.{isSet-other, vector-within}
 
 -- q is a page with the request and service bits of p

@@ -2,13 +2,13 @@
 -- event's cases proves both. Assumes nothing.
 use Prim.Native.Nat.{ℕ, _+_, _*_, _/_, _%_, _≤_, _<_}
 use native.Mathlib.Omega.{arith}
-use mathlib.Core.Path.{_≡_, refl, sym, _∙_, ap, subst}
+use mathlib.Core.Path.{_≡_, refl, sym, _∙_, ap}
 use mathlib.Core.Bool.{Bool, true, false, not, _&&_, _||_, true≢false, false≢true}
 use mathlib.Core.List.{List}
 use lib.Dec.{eqb, leb, ltb, lit<}
-use lib.ListN.{length, getD, set, length-set}
+use lib.ListN.{length, set}
 use lib.Seq.{getD-set-same, getD-set-other}
-use borrow.Author.Tests.{eqb-true, ltb-true, ltb-false, leb-true, ne-eqb}
+use borrow.Author.Tests.{eqb-true, ltb-true, leb-true, ne-eqb}
 use Rattle.processor.specs.Logic.{if_then_else_}
 use Rattle.rules.specs.Answers.{Numbers, numbers}
 use Rattle.processor.specs.Controls.{virtualizeX2apicMode, virtualDelivery, virtualizeApicAccesses, useTprShadow, interruptWindowExiting, flagsInBounds, withGuest, withControls}
@@ -24,19 +24,16 @@ use Rattle.rules.specs.declared.event.Event.{Event}
 use Rattle.rules.specs.declared.event.Event.the-variants.{Entry, Request, MemoryRead, MemoryWrite, ToCr8, FromCr8, Rdmsr, Wrmsr, Boundary}
 use Rattle.accesses.specs.declared.memory.Access.{Access}
 use Rattle.accesses.specs.declared.memory.Access.the-variants.{Passthrough, Exit, Redirected}
-use Rattle.accesses.specs.declared.memory.Following.{Following}
 use Rattle.accesses.specs.declared.memory.Following.the-variants.{Tpr, Eoi, SelfIpi, IcrHigh, ApicWrite}
-use Rattle.accesses.specs.declared.msr.MsrWrite.{MsrWrite}
 use Rattle.accesses.specs.declared.msr.MsrWrite.the-variants.{Passthrough as MsrPassthrough, Fault, Tpr as MsrTpr, Eoi as MsrEoi, SelfIpi as MsrSelfIpi, ApicWrite as MsrApicWrite}
-use Rattle.page.specs.Page.{virr, highest, vtpr, veoi, vicrLo, vicrHi, byteAt, wordAt, longAt, readAt, setByte, setHalf, setWord, setLong, storeAt, IsPage}
-use Rattle.runs.specs.After.{After, refused, redirected, passthrough, fault, exit, quiet}
-use Rattle.runs.specs.Procedures.{tprVirtualization, eoiVirtualization, selfIpiVirtualization}
+use Rattle.page.specs.Page.{virr, highest, vtpr, veoi, vicrLo, vicrHi, byteAt, wordAt, longAt, readAt, setHalf, setWord, setLong, storeAt, IsPage}
+use Rattle.runs.specs.After.{refused, redirected, passthrough, exit, quiet}
 use Rattle.runs.specs.Entry.{entry, entered, request}
 use Rattle.runs.specs.Memory.{readBy, memoryRead, clearThree, followBy, written, writeBy, memoryWrite}
 use Rattle.runs.specs.Cr8Msr.{toCr8By, movToCr8, fromCr8By, movFromCr8, readMsr, writeMsrBy, writeMsr}
 use Rattle.runs.specs.Boundary.{delivery, boundaryAt, boundary}
 use Rattle.runs.specs.Step.{carriedOut, step}
-use Rattle.runs.specs.Moves.{Move, stays, raises, delivers, retires, isQuiet, isDelivered, isQuietOr45, raisesIf, retiresIf, deliversIf, writeMove, wrmsrMove, moveOf, Moved}
+use Rattle.runs.specs.Moves.{stays, raises, delivers, isQuiet, isDelivered, isQuietOr45, raisesIf, retiresIf, deliversIf, moveOf, Moved}
 use Rattle.runs.specs.Settled.{ByteRecord, Settled}
 use Rattle.runs.specs.History.{deliveryOn}
 use Rattle.runs.proofs.Kept.{Same, Kept, free, same-refl, kept-refl, kept-set, kept-word}

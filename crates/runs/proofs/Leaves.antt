@@ -1,12 +1,12 @@
 -- What each way that an event can end does: the move, and that the record stays settled. One lemma for each end. Assumes nothing.
-use Prim.Native.Nat.{ℕ, _+_, _*_, _/_, _%_, _≤_, _<_}
+use Prim.Native.Nat.{ℕ, _/_, _%_, _≤_, _<_}
 use native.Mathlib.Nat.{le-refl}
 use native.Mathlib.Omega.{arith}
 use mathlib.Core.Path.{_≡_, refl, sym, _∙_, ap, subst}
-use mathlib.Core.Bool.{Bool, true, false, not, _&&_, true≢false, false≢true}
+use mathlib.Core.Bool.{Bool, true, false, not, true≢false, false≢true}
 use mathlib.Core.List.{List}
-use lib.Dec.{eqb, leb, ltb, lit≤}
-use borrow.Author.Tests.{leb-true, leb-false, ltb-true, ltb-false, le-ltb}
+use lib.Dec.{eqb, leb, lit≤}
+use borrow.Author.Tests.{leb-true, le-ltb}
 use Rattle.processor.specs.Logic.{if_then_else_}
 use Rattle.rules.specs.Answers.{Numbers, numbers}
 use Rattle.processor.specs.Controls.{virtualDelivery, eoiExit, interruptWindowExiting, withGuest, withRvi, withSvi, withRecognised, withControls}
@@ -15,16 +15,16 @@ use Rattle.processor.specs.declared.controls.Controls.{Controls}
 use Rattle.processor.specs.declared.controls.Record.{Record}
 use Rattle.rules.specs.declared.event.Event.{Event}
 use Rattle.processor.proofs.Tests.{never}
-use Rattle.page.specs.Page.{vtpr, vppr, visr, virr, byteAt, isSet, setWord, putVector, setVector, clearVector, highest, IsPage, put}
+use Rattle.page.specs.Page.{vtpr, vppr, visr, virr, byteAt, isSet, setWord, setVector, highest, IsPage, put}
 use Rattle.registers.proofs.Registers.{highest-ext, highest-fewer, highest-byte}
-use Rattle.runs.specs.After.{After, exit, quiet, delivered}
+use Rattle.runs.specs.After.{After, exit, quiet}
 use Rattle.runs.specs.Procedures.{pprVirtualization, evaluation, evaluatedQuiet, tprVirtualization, retiredPage, retiredRecord, eoiEnd, eoiVirtualization, requestedPage, requestedRecord, selfIpiVirtualization}
 use Rattle.runs.specs.Entry.{entered, request}
 use Rattle.runs.specs.Boundary.{deliveredPage, deliveredRecord, delivery}
 use Rattle.runs.specs.Moves.{Move, stays, raises, delivers, retires, isDelivered, isQuietOr45, moveOf, Moved}
 use Rattle.runs.specs.Settled.{ByteRecord, Settled}
 use Rattle.runs.specs.History.{deliveryOn}
-use Rattle.runs.proofs.Kept.{Same, Kept, same-refl, kept-refl, same-vppr, vppr-stored}
+use Rattle.runs.proofs.Kept.{Same, Kept, same-refl, same-vppr, vppr-stored}
 use Rattle.runs.proofs.Put.{page-put, bits-put, visr-keeps-requests, virr-keeps-services, put-keeps-vppr}
 
 -- what an event left: a page, the move that its answer names, and a settled record where it was settled

@@ -1,6 +1,6 @@
 pub mod Determined
 pub mod Bench
-pub mod Answered
+pub mod Condition1
 pub mod Kept
 pub mod Put
 pub mod Stores

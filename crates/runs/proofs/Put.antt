@@ -1,14 +1,14 @@
 -- One vector set or cleared in a register of a page: the page stays a page, the other register and VPPR stay. Assumes nothing.
 use Prim.Native.Nat.{ℕ, _+_, _%_, _≤_, _<_}
 use native.Mathlib.Omega.{arith}
-use mathlib.Core.Path.{_≡_, refl, _∙_, ap}
+use mathlib.Core.Path.{_≡_}
 use mathlib.Core.Bool.{Bool}
 use mathlib.Core.Logic.{_⊎_, inl, inr, ⊎-elim}
 use lib.Dec.{lit≤}
 use mathlib.Core.List.{List}
 use lib.ListN.{length}
 use lib.Seq.{getD-set-other}
-use Rattle.page.specs.Page.{vppr, visr, virr, byteAt, vectorByte, putBit, isSet, putVector, IsPage, put}
+use Rattle.page.specs.Page.{vppr, visr, virr, byteAt, vectorByte, isSet, putVector, IsPage, put}
 use Rattle.registers.proofs.Registers.{putBit-byte, vector-within, isSet-put, isSet-other}
 use Rattle.runs.proofs.Kept.{page-set}
 

@@ -1,8 +1,6 @@
 -- Condition 3 is sharp: fifteen are reached, and its premise is needed. Both are runs that antt computes. Assumes nothing.
-use Prim.Native.Nat.{ℕ}
-use mathlib.Core.Path.{_≡_, refl, sym, _∙_}
-use mathlib.Core.Bool.{Bool, true, false, true≢false}
-use mathlib.Core.List.{List, [], _∷_}
+use mathlib.Core.Path.{_≡_, refl, sym}
+use mathlib.Core.Bool.{true≢false}
 use Rattle.processor.specs.Controls.{eoiExitWord}
 use Rattle.rules.specs.Events.{valueInBounds, eventInBounds, rootOnly, allowed}
 use Rattle.rules.specs.Entry.{failingCheck}
@@ -14,8 +12,9 @@ use Rattle.runs.specs.Entry.{entered, entry, request}
 use Rattle.runs.specs.Memory.{followBy, written, writeBy, memoryWrite}
 use Rattle.runs.specs.Boundary.{deliveredPage, deliveredRecord, delivery, boundaryAt, boundary}
 use Rattle.runs.specs.Step.{carriedOut, step}
-use Rattle.runs.specs.History.{start, after, AllOn, none, more}
-use Rattle.runs.specs.Condition3.{depth, Recognition, recognisedNow}
+use Rattle.runs.specs.Run.{start, after}
+use Rattle.runs.specs.History.{AllOn, none, more}
+use Rattle.runs.specs.Condition3.{depth, Recognition}
 use Rattle.runs.specs.Examples.{fifteenDeep, deliveryOff}
 
 -- every entry of the run has virtual-interrupt delivery on, and fifteen are then in service

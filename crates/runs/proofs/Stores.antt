@@ -1,11 +1,11 @@
 -- A redirected write stores nothing in VPPR, VISR or VIRR: one test, computed at every offset and byte. Assumes nothing.
-use Prim.Native.Nat.{ℕ, _+_, _/_, _%_, _≤_, _<_}
+use Prim.Native.Nat.{ℕ, _+_, _%_, _≤_, _<_}
 use native.Mathlib.Nat.{add-zero}
 use native.Mathlib.Omega.{arith}
-use mathlib.Core.Path.{_≡_, refl, sym, _∙_, ap, subst}
-use mathlib.Core.Bool.{Bool, true, false, not, _&&_, _||_, true≢false}
+use mathlib.Core.Path.{_≡_, refl, sym, _∙_, subst}
+use mathlib.Core.Bool.{Bool, true, false, not, _||_, true≢false}
 use mathlib.Core.List.{List}
-use lib.Dec.{T, eqb, leb, ltb, lit<}
+use lib.Dec.{T, eqb, ltb, lit<}
 use borrow.Author.Tests.{eqb-true, ltb-false, lt-ltb}
 use Rattle.processor.specs.Logic.{if_then_else_, allBelow}
 use Rattle.processor.specs.Controls.{apicRegisterVirtualization, virtualDelivery}
@@ -13,7 +13,7 @@ use Rattle.rules.specs.Events.{sizeInBounds}
 use Rattle.accesses.specs.Memory.{openTpr, openDelivery, openWrite, openOffset, pastRegister}
 use Rattle.processor.specs.declared.controls.Controls.{Controls}
 use Rattle.processor.proofs.Tests.{below}
-use Rattle.page.specs.Page.{byteAt, setByte, storeAt, IsPage}
+use Rattle.page.specs.Page.{storeAt, IsPage}
 use Rattle.runs.proofs.Kept.{Kept, free, kept-refl, kept-set, kept-half, kept-word}
 
 -- open to a write in some setting

@@ -3,21 +3,19 @@
 use Prim.Native.Nat.{ℕ, _≤_, _<_}
 use native.Mathlib.Omega.{arith}
 use mathlib.Core.Path.{_≡_, refl, sym, _∙_, ap, subst}
-use mathlib.Core.Bool.{Bool, true, false, true≢false, false≢true}
+use mathlib.Core.Bool.{Bool, true, false}
 use mathlib.Core.List.{List, [], _∷_}
 use lib.Dec.{eqb}
 use Rattle.processor.specs.Logic.{if_then_else_}
-use Rattle.rules.specs.Answers.{Numbers}
 use Rattle.rules.specs.Procedures.{class}
 use Rattle.rules.specs.declared.event.Event.{Event}
-use Rattle.rules.specs.declared.event.Event.the-variants.{Entry, Request, MemoryRead, MemoryWrite, ToCr8, FromCr8, Rdmsr, Wrmsr, Boundary}
 use Rattle.page.specs.Page.{visr, isSet, put}
-use Rattle.runs.specs.After.{After}
-use Rattle.runs.specs.Moves.{Move, stays, raises, delivers, retires, isDelivered, raisesIf, retiresIf, moveOf, Moved, Deliverable}
-use Rattle.runs.specs.History.{deliveryOn, AllOn, Held, start, stepOf, after, serving}
+use Rattle.runs.specs.Moves.{Move, stays, raises, delivers, retires, moveOf, Moved, Deliverable}
+use Rattle.runs.specs.Run.{Held, start, stepOf, after}
+use Rattle.runs.specs.History.{AllOn, serving}
 use Rattle.runs.specs.Condition3.{Highest, Recognition, Served, Rising, Retires, Keeps, without, AtMost15, Delivers16}
 use Rattle.runs.proofs.Laws.{moves, answers-deliver}
-use Rattle.runs.proofs.Ladder.{front, rising, ladder-count, Ladder}
+use Rattle.runs.proofs.Ladder.{front, rising, ladder-count}
 use Rattle.runs.proofs.Invariant.{Inv, byte-record, svi-front, above, run-inv, start-inv}
 
 module _ (es : List Event) (o : AllOn es) where

@@ -4,15 +4,13 @@ use mathlib.Core.Bool.{Bool, true, false, _&&_, Bool·beq}
 use mathlib.Core.List.{List, [], _∷_, _++_}
 use lib.Dec.{eqb}
 use Rattle.rules.specs.Answers.{Numbers, numbers}
-use Rattle.processor.specs.Controls.{fresh}
 use Rattle.processor.specs.declared.controls.Controls.{Controls}
 use Rattle.processor.specs.declared.controls.Record.{Record}
 use Rattle.rules.specs.declared.event.Event.{Event}
 use Rattle.rules.specs.declared.event.Event.the-variants.{Entry, Request, MemoryRead, MemoryWrite, ToCr8, Boundary}
 use Rattle.page.specs.Page.{vtpr, setByte, wordAt}
-use Rattle.runs.specs.After.{After}
 use Rattle.runs.specs.Procedures.{pprVirtualization}
-use Rattle.runs.specs.Run.{run, zeroPage}
+use Rattle.runs.specs.Run.{Held, zeroPage, start, after, answers}
 
 -- a word of the page: its offset and its value
 pub record Word : Type 0 where
@@ -24,26 +22,18 @@ pub data Deed : Type 0 where
   events : List Event → Deed
   pprAlone : Deed
 
--- what a deed leaves: the answers in order, the record and the page
+-- what a deed leaves: the answers in order, and what is then held
 pub record End : Type 0 where
   pub answers : List Numbers
-  pub state : Record
-  pub page : List ℕ
+  pub held : Held
 
-abbrev pub endOf : List ℕ → Record → List After → End
-endOf p r [] = record { answers = []; state = r; page = p }
-endOf p r (a ∷ rest) =
-    let e = endOf (a .page) (a .state) rest in
-    record { answers = a .answer ∷ e .answers; state = e .state; page = e .page }
-
-abbrev pub done : List ℕ → Record → Deed → End
-done p r (events es) = endOf p r (run p r es)
-done p r pprAlone = record { answers = []; state = r; page = pprVirtualization p r }
+abbrev pub done : Held → Deed → End
+done h (events es) = record { answers = answers h es; held = after h es }
+done h pprAlone = record { answers = []; held = record { page = pprVirtualization (h .page) (h .state); state = h .state } }
 
 -- a row: the start; the deed; the answers' numbers; mode, RVI, SVI and recognition at the end; words of the page at the end
 pub record Row : Type 0 where
-  pub page : List ℕ
-  pub state : Record
+  pub begin : Held
   pub deed : Deed
   pub answers : List Numbers
   pub guest : Bool
@@ -68,12 +58,12 @@ hasWords p (w ∷ ws) = eqb (wordAt p (w .at)) (w .value) && hasWords p ws
 -- the row holds of the definitions
 abbrev pub endHolds : End → Row → Bool
 endHolds e row =
-    sameAnswers (e .answers) (row .answers) && Bool·beq (e .state .guest) (row .guest) && eqb (e .state .rvi) (row .rvi) &&
-    eqb (e .state .svi) (row .svi) && Bool·beq (e .state .recognised) (row .recognised) && hasWords (e .page) (row .words)
+    let s = e .held .state in
+    sameAnswers (e .answers) (row .answers) && Bool·beq (s .guest) (row .guest) && eqb (s .rvi) (row .rvi) &&
+    eqb (s .svi) (row .svi) && Bool·beq (s .recognised) (row .recognised) && hasWords (e .held .page) (row .words)
 
 unfoldable pub rowHolds : Row → Bool
-unfolding run
-rowHolds row = endHolds (done (row .page) (row .state) (row .deed)) row
+rowHolds row = endHolds (done (row .begin) (row .deed)) row
 
 abbrev pub rowsHold : List Row → Bool
 rowsHold [] = true
@@ -129,12 +119,12 @@ write300 value = MemoryWrite 0x300 4 false false value
 -- a row that starts fresh
 abbrev fromFresh : List Event → List Numbers → Bool → ℕ → ℕ → Bool → List Word → Row
 fromFresh es answers guest rvi svi recognised words =
-    record { page = zeroPage; state = fresh; deed = events es; answers = answers; guest = guest; rvi = rvi; svi = svi; recognised = recognised; words = words }
+    record { begin = start; deed = events es; answers = answers; guest = guest; rvi = rvi; svi = svi; recognised = recognised; words = words }
 
 -- a row of one event in guest mode
 abbrev inGuest : Controls → List ℕ → Event → Numbers → Bool → List Word → Row
 inGuest c p e a guest words =
-    record { page = p; state = guestWith c 0; deed = events (e ∷ []); answers = a ∷ []; guest = guest; rvi = 0; svi = 0; recognised = false; words = words }
+    record { begin = record { page = p; state = guestWith c 0 }; deed = events (e ∷ []); answers = a ∷ []; guest = guest; rvi = 0; svi = 0; recognised = false; words = words }
 
 abbrev pub k1 : Row
 k1 = fromFresh (afterK1 controlsV) answersK1 true 0 0x60 false (word 0x130 1 ∷ word 0x230 0 ∷ word 0x0a0 0x60 ∷ [])
@@ -175,7 +165,7 @@ k7 = afterK1Write 0x0004_000f (exit 56 0x300) false 0 false [] ∷ afterK1Write 
 -- PPR virtualization alone: VTPR and SVI, and the VPPR that comes of them
 abbrev pprRow : ℕ → ℕ → ℕ → Row
 pprRow vtprValue svi vpprValue =
-    record { page = vtprPage vtprValue; state = guestWith controlsV svi; deed = pprAlone; answers = []; guest = true; rvi = 0; svi = svi; recognised = false; words = word 0x0a0 vpprValue ∷ [] }
+    record { begin = record { page = vtprPage vtprValue; state = guestWith controlsV svi }; deed = pprAlone; answers = []; guest = true; rvi = 0; svi = svi; recognised = false; words = word 0x0a0 vpprValue ∷ [] }
 
 abbrev pub k8 : List Row
 k8 = pprRow 0x6f 0x60 0x6f ∷ pprRow 0x5f 0x63 0x60 ∷ []

@@ -1,6 +1,6 @@
 -- Document 01, "Boundary".
 use Prim.Native.Nat.{ℕ}
-use mathlib.Core.Bool.{Bool, true, false, _&&_}
+use mathlib.Core.Bool.{Bool, false, _&&_}
 use mathlib.Core.List.{List}
 use Rattle.processor.specs.Logic.{if_then_else_}
 use Rattle.processor.specs.Controls.{interruptWindowExiting, withRvi, withSvi, withRecognised}

@@ -1,7 +1,7 @@
 -- Condition 1 of the tender, and document 01, "What comes back": what each answer leaves, on any page slice and any record.
 use Prim.Native.Nat.{ℕ}
 use mathlib.Core.Path.{_≡_}
-use mathlib.Core.Bool.{Bool, true, false}
+use mathlib.Core.Bool.{Bool, true, false, _&&_}
 use mathlib.Core.List.{List}
 use lib.Dec.{eqb, ltb}
 use Rattle.rules.specs.Answers.{Numbers}
@@ -20,8 +20,7 @@ isExit n = eqb (n .answer) 4
 
 -- a refusal's numbers: its own is 1 to 4, and only the fourth has a second, the failing check
 pub record Refusal (n : Numbers) : Type 0 where
-  pub number : ltb 0 (n .first) ≡ true
-  pub last : ltb (n .first) 5 ≡ true
+  pub number : (ltb 0 (n .first) && ltb (n .first) 5) ≡ true
   pub check : eqb (n .first) 4 ≡ false → n .second ≡ 0
 
 -- Refused by its number, with page and record unchanged; passthrough, fault and redirected reads change nothing either; every exit

@@ -3,16 +3,15 @@ use Prim.Native.Nat.{ℕ, zero, suc, _+_, _≤_, _<_}
 use mathlib.Core.Path.{_≡_}
 use mathlib.Core.Bool.{Bool, true, false, not, _&&_}
 use mathlib.Core.List.{List, [], _∷_}
-use lib.Dec.{eqb, ltb}
+use lib.Dec.{ltb}
 use Rattle.processor.specs.Logic.{if_then_else_}
-use Rattle.rules.specs.Answers.{Numbers}
 use Rattle.processor.specs.Controls.{interruptWindowExiting}
 use Rattle.rules.specs.Procedures.{class}
 use Rattle.rules.specs.declared.event.Event.{Event}
 use Rattle.page.specs.Page.{vppr, visr, virr, byteAt, isSet, highest, put}
-use Rattle.runs.specs.After.{After}
-use Rattle.runs.specs.Moves.{Move, retires, moveOf, isDelivered}
-use Rattle.runs.specs.History.{Held, stepOf, member, rest}
+use Rattle.runs.specs.Moves.{retires, moveOf, isDelivered}
+use Rattle.runs.specs.Run.{Held, stepOf}
+use Rattle.runs.specs.History.{member}
 
 -- RVI and SVI are the highest set request and service bits, or zero.
 pub record Highest (h : Held) : Type 0 where

@@ -1,17 +1,14 @@
--- Runs, and what their events and answers tell: the vectors delivered and not yet retired.
+-- What a run's events and answers tell: the vectors delivered and not yet retired.
 use Prim.Native.Nat.{ℕ}
 use mathlib.Core.Path.{_≡_}
 use mathlib.Core.Bool.{Bool, true, false, _||_}
 use mathlib.Core.List.{List, [], _∷_}
 use lib.Dec.{eqb}
 use Rattle.rules.specs.Answers.{Numbers}
-use Rattle.processor.specs.Controls.{virtualDelivery, fresh}
-use Rattle.processor.specs.declared.controls.Record.{Record}
+use Rattle.processor.specs.Controls.{virtualDelivery}
 use Rattle.rules.specs.declared.event.Event.{Event}
 use Rattle.rules.specs.declared.event.Event.the-variants.{Entry, Request, MemoryRead, MemoryWrite, ToCr8, FromCr8, Rdmsr, Wrmsr, Boundary}
-use Rattle.runs.specs.After.{After}
-use Rattle.runs.specs.Step.{step}
-use Rattle.runs.specs.Run.{zeroPage}
+use Rattle.runs.specs.Run.{start, answers}
 use Rattle.runs.specs.Moves.{Move, stays, raises, delivers, retires, moveOf}
 
 -- every entry attempted has virtual-interrupt delivery on; nothing else is asked of an event
@@ -29,32 +26,6 @@ deliveryOn (Boundary interrupts sti movSs activity) = Unit
 pub data AllOn : List Event → Type 0 where
   none : AllOn []
   more : {e : Event} {es : List Event} → deliveryOn e → AllOn es → AllOn (e ∷ es)
-
--- the page and the record that a run hands on
-pub record Held : Type 0 where
-  pub page : List ℕ
-  pub state : Record
-
--- outside the guest, zero page and zero status
-abbrev pub start : Held
-start = record { page = zeroPage; state = fresh }
-
--- what one event leaves of what was held
-abbrev pub stepOf : Held → Event → After
-stepOf h e = step (h .page) (h .state) e
-
-abbrev pub heldAfter : After → Held
-heldAfter a = record { page = a .page; state = a .state }
-
--- the same pair handed on from event to event, refused ones included
-abbrev pub after : Held → List Event → Held
-after h [] = h
-after h (e ∷ es) = after (heldAfter (stepOf h e)) es
-
--- the answers of a run, in order
-abbrev pub answers : Held → List Event → List Numbers
-answers h [] = []
-answers h (e ∷ es) = stepOf h e .answer ∷ answers (heldAfter (stepOf h e)) es
 
 -- the vectors in service, the latest delivered first: a delivery puts its vector in front, an EOI takes the front one away
 abbrev pub rest : List ℕ → List ℕ

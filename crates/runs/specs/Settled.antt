@@ -1,7 +1,7 @@
 -- The law beside the moves: what an event keeps of recognition and of VPPR, where every entry has virtual-interrupt delivery on.
 use Prim.Native.Nat.{ℕ, _≤_, _<_}
 use mathlib.Core.Path.{_≡_}
-use mathlib.Core.Bool.{Bool, true, false}
+use mathlib.Core.Bool.{true, false}
 use mathlib.Core.List.{List}
 use Rattle.processor.specs.Logic.{if_then_else_}
 use Rattle.processor.specs.Controls.{virtualDelivery}

@@ -1,5 +1,4 @@
 use Rattle.capi.specs.Records.{controlsOf}
-use borrow.Author.Needs.{needs}
 use Rattle.capi.proofs.controls.controls_of.Statement.{statement}
 use Rattle.capi.proofs.controls.controls_of.Tie as tie
 

@@ -1,5 +1,4 @@
 use Rattle.capi.specs.Events.{boundaryOf}
-use borrow.Author.Needs.{needs}
 use Rattle.capi.proofs.events.boundary_of.Statement.{statement}
 use Rattle.capi.proofs.events.boundary_of.Tie as tie
 

@@ -1,6 +1,5 @@
 use borrow.Author.Tests.{ne-eqb}
 use Rattle.capi.specs.Events.{eventOf}
-use borrow.Author.Needs.{needs}
 use Rattle.capi.proofs.events.event_of.Statement.{statement}
 use Rattle.capi.proofs.events.event_of.Tie as tie
 

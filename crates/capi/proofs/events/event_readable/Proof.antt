@@ -1,5 +1,4 @@
 use Rattle.capi.specs.Events.{eventReadable}
-use borrow.Author.Needs.{needs}
 use Rattle.capi.proofs.events.event_readable.Statement.{statement}
 use Rattle.capi.proofs.events.event_readable.Tie as tie
 use Rattle.capi.proofs.events.event_readable.Reads as reads

@@ -1,4 +1,3 @@
-use borrow.Author.Needs.{needs}
 use Rattle.capi.proofs.events.number_readable.Statement.{statement}
 use Rattle.capi.proofs.events.number_readable.Tie as tie
 

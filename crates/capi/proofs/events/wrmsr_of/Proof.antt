@@ -1,5 +1,4 @@
 use Rattle.capi.specs.Events.{wrmsrOf}
-use borrow.Author.Needs.{needs}
 use Rattle.capi.proofs.events.wrmsr_of.Statement.{statement}
 use Rattle.capi.proofs.events.wrmsr_of.Tie as tie
 

@@ -1,5 +1,4 @@
 use Rattle.capi.specs.Records.{recordOf}
-use borrow.Author.Needs.{needs}
 use Rattle.capi.proofs.records.record_of.Statement.{statement}
 use Rattle.capi.proofs.records.record_of.Tie as tie
 

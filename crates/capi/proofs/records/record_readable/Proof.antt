@@ -1,4 +1,3 @@
-use borrow.Author.Needs.{needs}
 use Rattle.capi.proofs.records.record_readable.Statement.{statement}
 use Rattle.capi.proofs.records.record_readable.Tie as tie
 use Rattle.capi.proofs.records.record_readable.Reads as reads

@@ -1,7 +1,6 @@
 -- `page::bytes::byte_at` meets its contract: code and definition take the same cases. Assumes nothing.
 use mathlib.Core.Path.{sym}
 use lib.ListN.{List·getD-eq-default}
-use borrow.Author.Tests.{le-ltb}
 use borrow.Author.Needs.{needs}
 use Rattle.page.proofs.bytes.byte_at.Statement.{statement}
 use Rattle.page.proofs.bytes.byte_at.Tie as tie

@@ -1,7 +1,6 @@
 -- `page::bytes::set_byte` meets its contract: code and definition take the same cases. Assumes nothing.
 use mathlib.Core.Path.{sym}
 use lib.Seq.{set-out}
-use borrow.Author.Tests.{le-ltb}
 use borrow.Author.Needs.{needs}
 use Rattle.page.proofs.bytes.set_byte.Statement.{statement}
 use Rattle.page.proofs.bytes.set_byte.Tie as tie

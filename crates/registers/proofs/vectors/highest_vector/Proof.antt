@@ -1,8 +1,8 @@
 -- `registers::vectors::highest_vector` meets its contract: below word `left` nothing is looked at yet, and above it nothing is set.
 -- Assumes nothing.
-use Prim.Native.Nat.{ℕ, _+_, _-_, _*_, _≤_}
+use Prim.Native.Nat.{ℕ, _*_, _≤_}
 use native.Mathlib.Omega.{arith}
-use mathlib.Core.Path.{_≡_, refl, _∙_, ap, subst, sym}
+use mathlib.Core.Path.{_≡_, _∙_, ap, subst, sym}
 use lib.Dec.{lit≤}
 use Rattle.page.specs.Page.{isSet, highestBit, highest}
 use Rattle.registers.proofs.Top.{top}

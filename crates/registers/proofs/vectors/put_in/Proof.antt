@@ -2,7 +2,6 @@
 use native.Mathlib.Nat.{zero-add}
 use mathlib.Core.Path.{sym}
 use lib.Seq.{set-out}
-use borrow.Author.Tests.{le-ltb, lt-ltb}
 use Rattle.page.specs.Page.{putVector}
 use borrow.Author.Needs.{needs}
 use Rattle.registers.proofs.vectors.put_in.Statement.{statement}

@@ -6,7 +6,6 @@ use mathlib.Core.Path.{sym}
 use lib.Seq.{set-out}
 use Rattle.page.specs.Page.{vectorByte, putBit, putVector}
 use Rattle.registers.proofs.Part.{changed-part}
-use borrow.Author.Tests.{le-leb, lt-leb}
 use borrow.Author.Needs.{needs}
 use Rattle.registers.proofs.vectors.put_vector.Statement.{statement}
 use Rattle.registers.proofs.vectors.put_vector.Tie as tie

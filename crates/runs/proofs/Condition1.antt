@@ -1,22 +1,20 @@
 -- What each answer leaves: one lemma for each way that an event can end, one walk over the event's cases. Assumes nothing.
 use Prim.Native.Nat.{ℕ}
 use mathlib.Core.Path.{_≡_, refl}
-use mathlib.Core.Bool.{Bool, true, false, not, _&&_, true≢false, false≢true}
+use mathlib.Core.Bool.{Bool, true, false, _&&_, true≢false, false≢true}
 use mathlib.Core.List.{List}
 use lib.Dec.{eqb, ltb}
 use lib.ListN.{length}
-use Rattle.processor.specs.Logic.{if_then_else_}
 use Rattle.processor.specs.Controls.{virtualDelivery, eoiExit, interruptWindowExiting}
 use Rattle.processor.specs.declared.controls.Controls.{Controls}
 use Rattle.processor.specs.declared.controls.Record.{Record}
 use Rattle.rules.specs.Answers.{Numbers, numbers}
 use Rattle.rules.specs.Events.{inBounds, allowed}
 use Rattle.rules.specs.Entry.{failingCheck, exitsAtEntry}
-use Rattle.rules.specs.Procedures.{belowThreshold, openBoundary}
+use Rattle.rules.specs.Procedures.{belowThreshold}
 use Rattle.rules.specs.declared.event.Event.{Event}
 use Rattle.rules.specs.declared.event.Event.the-variants.{Entry, Request, MemoryRead, MemoryWrite, ToCr8, FromCr8, Rdmsr, Wrmsr, Boundary}
-use Rattle.accesses.specs.Memory.{memoryAccess, writeFollowing}
-use Rattle.accesses.specs.Cr8Msr.{toCr8, fromCr8, rdmsrRedirected, wrmsr}
+use Rattle.accesses.specs.Cr8Msr.{rdmsrRedirected}
 use Rattle.accesses.specs.declared.memory.Access.{Access}
 use Rattle.accesses.specs.declared.memory.Access.the-variants.{Passthrough, Exit, Redirected}
 use Rattle.accesses.specs.declared.memory.Following.{Following}
@@ -24,14 +22,14 @@ use Rattle.accesses.specs.declared.memory.Following.the-variants.{Tpr, Eoi, Sel
 use Rattle.accesses.specs.declared.msr.MsrWrite.{MsrWrite}
 use Rattle.accesses.specs.declared.msr.MsrWrite.the-variants.{Passthrough as MsrPassthrough, Fault, Tpr as MsrTpr, Eoi as MsrEoi, SelfIpi as MsrSelfIpi, ApicWrite as MsrApicWrite}
 use Rattle.page.specs.Page.{vtpr, byteAt}
-use Rattle.runs.specs.After.{After, refused, exit, quiet}
+use Rattle.runs.specs.After.{refused, quiet}
 use Rattle.runs.specs.Procedures.{evaluatedQuiet, tprVirtualization, retiredRecord, eoiEnd, eoiVirtualization, selfIpiVirtualization}
 use Rattle.runs.specs.Entry.{entry, entered, request}
 use Rattle.runs.specs.Memory.{readBy, memoryRead, followBy, written, writeBy, memoryWrite}
 use Rattle.runs.specs.Cr8Msr.{toCr8By, movToCr8, fromCr8By, movFromCr8, readMsr, writeMsrBy, writeMsr}
 use Rattle.runs.specs.Boundary.{delivery, boundaryAt, boundary}
 use Rattle.runs.specs.Step.{carriedOut, step}
-use Rattle.runs.specs.Condition1.{isRefused, Refusal, Left}
+use Rattle.runs.specs.Condition1.{Refusal, Left}
 
 module _ (p : List ℕ) (r : Record) where
   left-refused : (number check : ℕ) → Refusal (numbers 0 number check) → Left p r (refused number check p r)
@@ -153,7 +151,7 @@ module _ (p : List ℕ) (r : Record) where
       by : (f x : Bool) → eqb (failingCheck c) 0 ≡ f → exitsAtEntry c (byteAt p vtpr) ≡ x → Left p r (entry p r c)
       by true true e g = simp (e, g) (left-exit _ _ _ _ refl refl)
       by true false e g = simp (e, g) (left-entered _ _)
-      by false x e g = simp e (left-refused 4 (failingCheck c) (record { number = refl; last = refl; check = λ t. absurd (true≢false t) }))
+      by false x e g = simp e (left-refused 4 (failingCheck c) (record { number = refl; check = λ t. absurd (true≢false t) }))
 
   left-rdmsr : (index : ℕ) → Left p r (readMsr p r index)
   unfolding readMsr
@@ -189,11 +187,11 @@ module _ (p : List ℕ) (r : Record) where
   unfolding step
   answers-leave e = by (eqb (length p) 4096) (inBounds r e) (allowed r e) refl refl refl
     where
-      refusal : (n : ℕ) → ltb 0 n ≡ true → ltb n 5 ≡ true → eqb n 4 ≡ false → Left p r (refused n 0 p r)
-      refusal n l m o = left-refused n 0 (record { number = l; last = m; check = λ t. refl })
+      refusal : (n : ℕ) → (ltb 0 n && ltb n 5) ≡ true → Left p r (refused n 0 p r)
+      refusal n l = left-refused n 0 (record { number = l; check = λ t. refl })
 
       by : (x y z : Bool) → eqb (length p) 4096 ≡ x → inBounds r e ≡ y → allowed r e ≡ z → Left p r (step p r e)
-      by false y z f g h = simp f (refusal 1 refl refl refl)
-      by true false z f g h = simp (f, g) (refusal 2 refl refl refl)
-      by true true false f g h = simp (f, g, h) (refusal 3 refl refl refl)
+      by false y z f g h = simp f (refusal 1 refl)
+      by true false z f g h = simp (f, g) (refusal 2 refl)
+      by true true false f g h = simp (f, g, h) (refusal 3 refl)
       by true true true f g h = simp (f, g, h) (left-carried e)
