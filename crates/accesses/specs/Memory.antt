@@ -64,14 +64,14 @@ pastRegister offset size = ltb 4 (offset % 16 + size)
 
 -- exit 44 if any holds: shadow off; fetch; size 8; the already-virtualised flag; (offset mod 16) + size > 4; or the offset isn't open
 abbrev pub accessExits : Controls → Bool → ℕ → ℕ → Bool → Bool → Bool
-accessExits c write offset size fetch again =
-    not (useTprShadow c) || fetch || eqb size 8 || again || pastRegister offset size || not (openOffset c write offset)
+accessExits c write offset size fetch already =
+    not (useTprShadow c) || fetch || eqb size 8 || already || pastRegister offset size || not (openOffset c write offset)
 
 -- Control 1 off: passthrough. Else exit 44 if any holds. Else redirected.
 unfoldable pub memoryAccess : Controls → Bool → ℕ → ℕ → Bool → Bool → Access
-memoryAccess c write offset size fetch again =
+memoryAccess c write offset size fetch already =
     if not (virtualizeApicAccesses c) then Passthrough
-    else if accessExits c write offset size fetch again then Exit
+    else if accessExits c write offset size fetch already then Exit
     else Redirected
 
 -- Qualification: offset, plus 0 for a read, 1000H for a write, 2000H for a fetch.

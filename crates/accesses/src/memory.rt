@@ -153,13 +153,13 @@ fn past_register(offset: u16, size: u8) -> bool
     4 < offset % 16 + size as u16
 }
 
-fn access_exits(c: Controls, write: bool, offset: u16, size: u8, fetch: bool, again: bool) -> bool
-    ensures { λ r. ⌜ r ≡ accessExits c write offset size fetch again ⌝ }
+fn access_exits(c: Controls, write: bool, offset: u16, size: u8, fetch: bool, already: bool) -> bool
+    ensures { λ r. ⌜ r ≡ accessExits c write offset size fetch already ⌝ }
 {
     !c.use_tpr_shadow()
         | fetch
         | (size == 8)
-        | again
+        | already
         | past_register(offset, size)
         | !open_offset(c, write, offset)
 }
@@ -171,14 +171,14 @@ pub fn memory_access(
     offset: u16,
     size: u8,
     fetch: bool,
-    again: bool,
+    already: bool,
 ) -> Access
-    ensures { λ r. ⌜ r ≡ memoryAccess c write offset size fetch again ⌝ }
+    ensures { λ r. ⌜ r ≡ memoryAccess c write offset size fetch already ⌝ }
 {
     if !c.virtualize_apic_accesses() {
         return Access::Passthrough;
     }
-    if access_exits(c, write, offset, size, fetch, again) {
+    if access_exits(c, write, offset, size, fetch, already) {
         return Access::Exit;
     }
     Access::Redirected

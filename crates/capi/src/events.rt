@@ -75,7 +75,7 @@ fn memory_read_of(event: &[u8]) -> Event
         offset: (word_at(event, NUMBER) % 0x1_0000) as u16,
         size: byte_at(event, SIZE),
         fetch: flags / 1 % 2 == 1,
-        again: flags / 2 % 2 == 1,
+        already: flags / 2 % 2 == 1,
     }
 }
 
@@ -87,7 +87,7 @@ fn memory_write_of(event: &[u8]) -> Event
         offset: (word_at(event, NUMBER) % 0x1_0000) as u16,
         size: byte_at(event, SIZE),
         fetch: flags / 1 % 2 == 1,
-        again: flags / 2 % 2 == 1,
+        already: flags / 2 % 2 == 1,
         value: long_at(event, VALUE),
     }
 }

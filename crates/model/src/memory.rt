@@ -37,12 +37,12 @@ pub fn memory_read(
     offset: u16,
     size: u8,
     fetch: bool,
-    again: bool,
+    already: bool,
 ) -> Outcome
-    ensures { λ r. ⌜ Leaves (memoryRead (now (page .entry)) «record» offset size fetch again) r (now (page .entry)) ⌝ }
+    ensures { λ r. ⌜ Leaves (memoryRead (now (page .entry)) «record» offset size fetch already) r (now (page .entry)) ⌝ }
 {
     let controls = record.controls;
-    let access = memory_access(controls, false, offset, size, fetch, again);
+    let access = memory_access(controls, false, offset, size, fetch, already);
     match access {
         Access::Passthrough => passthrough(record),
         Access::Exit => exit(record, 44, read_qualification(offset, fetch)),
@@ -97,13 +97,13 @@ pub fn memory_write(
     offset: u16,
     size: u8,
     fetch: bool,
-    again: bool,
+    already: bool,
     value: u64,
 ) -> Outcome
-    ensures { λ r. ⌜ Leaves (memoryWrite (now (page .entry)) «record» offset size fetch again value) r (now (page .exit)) ⌝ }
+    ensures { λ r. ⌜ Leaves (memoryWrite (now (page .entry)) «record» offset size fetch already value) r (now (page .exit)) ⌝ }
 {
     let controls = record.controls;
-    let access = memory_access(controls, true, offset, size, fetch, again);
+    let access = memory_access(controls, true, offset, size, fetch, already);
     match access {
         Access::Passthrough => passthrough(record),
         Access::Exit => exit(record, 44, write_qualification(offset)),

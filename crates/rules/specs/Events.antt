@@ -32,8 +32,8 @@ activityInBounds activity = ltb activity 4
 unfoldable pub eventInBounds : Event → Bool
 eventInBounds (Entry controls) = flagsInBounds controls
 eventInBounds (Request vector) = ltb vector 256
-eventInBounds (MemoryRead offset size fetch again) = offsetInBounds offset && sizeInBounds size
-eventInBounds (MemoryWrite offset size fetch again value) = offsetInBounds offset && valueInBounds size value && not fetch
+eventInBounds (MemoryRead offset size fetch already) = offsetInBounds offset && sizeInBounds size
+eventInBounds (MemoryWrite offset size fetch already value) = offsetInBounds offset && valueInBounds size value && not fetch
 eventInBounds (ToCr8 value register) = cr8InBounds value && cr8InBounds register
 eventInBounds (FromCr8 register) = cr8InBounds register
 eventInBounds (Rdmsr index) = true
@@ -48,8 +48,8 @@ inBounds r e = flagsInBounds (r .controls) && eventInBounds e
 unfoldable pub rootOnly : Event → Bool
 rootOnly (Entry controls) = true
 rootOnly (Request vector) = true
-rootOnly (MemoryRead offset size fetch again) = false
-rootOnly (MemoryWrite offset size fetch again value) = false
+rootOnly (MemoryRead offset size fetch already) = false
+rootOnly (MemoryWrite offset size fetch already value) = false
 rootOnly (ToCr8 value register) = false
 rootOnly (FromCr8 register) = false
 rootOnly (Rdmsr index) = false

@@ -174,8 +174,8 @@ module _ (p : List ℕ) (r : Record) where
   unfolding carriedOut request memoryRead memoryWrite movToCr8 movFromCr8 writeMsr boundary
   left-carried (Entry c) = left-enter c
   left-carried (Request vector) = left-quiet _ _
-  left-carried (MemoryRead offset size fetch again) = left-read _ _ _ _
-  left-carried (MemoryWrite offset size fetch again value) = left-write _ _ _ _
+  left-carried (MemoryRead offset size fetch already) = left-read _ _ _ _
+  left-carried (MemoryWrite offset size fetch already value) = left-write _ _ _ _
   left-carried (ToCr8 value register) = left-to-cr8 _ _ _
   left-carried (FromCr8 register) = left-from-cr8 _ _
   left-carried (Rdmsr index) = left-rdmsr index

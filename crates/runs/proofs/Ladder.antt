@@ -42,8 +42,8 @@ lower (v ∷ vs) (rung h c l) w m = by (lower vs l w) (eqb v w) refl m
     by ih false e q = under (ih q)
 
 -- so the front is not behind itself, and nothing behind it is higher
-pub not-again : (v : ℕ) (vs : List ℕ) → Ladder (v ∷ vs) → member v vs ≡ false
-not-again v vs (rung h c l) = by (member v vs) refl
+pub not-already : (v : ℕ) (vs : List ℕ) → Ladder (v ∷ vs) → member v vs ≡ false
+not-already v vs (rung h c l) = by (member v vs) refl
   where
     by : (b : Bool) → member v vs ≡ b → b ≡ false
     by true e = absurd (clash (lower vs l v e))
@@ -87,7 +87,7 @@ popped f [] l w e = by (eqb 0 w)
 popped f (v ∷ vs) l w e = by (eqb v w) refl e
   where
     by : (b : Bool) → eqb v w ≡ b → f w ≡ (b || member w vs) → (if b then false else f w) ≡ member w vs
-    by true q s = sym (ap (λ x. member x vs) (sym (eqb-true v w q)) ∙ not-again v vs l)
+    by true q s = sym (ap (λ x. member x vs) (sym (eqb-true v w q)) ∙ not-already v vs l)
     by false q s = s
 
 pub behind : (vs : List ℕ) → Ladder vs → Ladder (rest vs)

@@ -61,8 +61,8 @@ stays-other : (e : Event) (n : Numbers) → isQuietOr45 n ≡ false → isDelive
 unfolding moveOf
 stays-other (Entry controls) n a d = refl
 stays-other (Request vector) n a d = ap (λ q. raisesIf q vector) (none-left (isQuiet n) _ a)
-stays-other (MemoryRead offset size fetch again) n a d = refl
-stays-other (MemoryWrite offset size fetch again value) n a d =
+stays-other (MemoryRead offset size fetch already) n a d = refl
+stays-other (MemoryWrite offset size fetch already value) n a d =
     no-move (eqb offset 0x300) (eqb offset 0x0b0) (isQuiet n) (isQuietOr45 n) (value % 0x100) (none-left (isQuiet n) _ a) a
 stays-other (ToCr8 value register) n a d = refl
 stays-other (FromCr8 register) n a d = refl
@@ -127,9 +127,9 @@ low-stored p size value g false false true e₁ e₂ e₄ s =
 low-stored p size value g false false false e₁ e₂ e₄ s = absurd (false≢true s)
 
 -- ---- a write to memory
-module _ (p : List ℕ) (r : Record) (offset size : ℕ) (fetch again : Bool) (value : ℕ) (g : IsPage p) (b : ByteRecord r) (t : r .guest ≡ true) where
+module _ (p : List ℕ) (r : Record) (offset size : ℕ) (fetch already : Bool) (value : ℕ) (g : IsPage p) (b : ByteRecord r) (t : r .guest ≡ true) where
   abbrev write : Event
-  write = MemoryWrite offset size fetch again value
+  write = MemoryWrite offset size fetch already value
 
   abbrev stored : List ℕ
   stored = storeAt p offset size value
@@ -165,9 +165,9 @@ module _ (p : List ℕ) (r : Record) (offset size : ℕ) (fetch again : Bool) (v
       above m l h e = omega arith
   follows k s n false false false false ew ex ey ez = exits p r write g b 56 offset stored (k .same) refl
 
-  writes : eventInBounds write ≡ true → Good p r write (memoryWrite p r offset size fetch again value)
+  writes : eventInBounds write ≡ true → Good p r write (memoryWrite p r offset size fetch already value)
   unfolding memoryWrite memoryAccess writeBy written writeFollowing eventInBounds valueInBounds
-  writes e = by (not (virtualizeApicAccesses (r .controls))) (accessExits (r .controls) true offset size fetch again) refl
+  writes e = by (not (virtualizeApicAccesses (r .controls))) (accessExits (r .controls) true offset size fetch already) refl
     where
       in-size : sizeInBounds size ≡ true
       in-size = left (sizeInBounds size) _ (right (offsetInBounds offset) _ (left (offsetInBounds offset && valueInBounds size value) (not fetch) e))
@@ -175,7 +175,7 @@ module _ (p : List ℕ) (r : Record) (offset size : ℕ) (fetch again : Bool) (v
       in-offset : offset < 4096
       in-offset = ltb-true offset 4096 (left (offsetInBounds offset) (valueInBounds size value) (left (offsetInBounds offset && valueInBounds size value) (not fetch) e))
 
-      redirected-end : accessExits (r .controls) true offset size fetch again ≡ false → Good p r write (written (storeAt p offset size value) r offset)
+      redirected-end : accessExits (r .controls) true offset size fetch already ≡ false → Good p r write (written (storeAt p offset size value) r offset)
       redirected-end x =
           follows
           (kept-store p offset size value g (r .controls) in-offset (not-not (openOffset (r .controls) true offset) (none-right up5 (not (openOffset (r .controls) true offset)) x)) (none-right up4 (pastRegister offset size) (none-left up5 (not (openOffset (r .controls) true offset)) x)) in-size not8)
@@ -188,15 +188,15 @@ module _ (p : List ℕ) (r : Record) (offset size : ℕ) (fetch again : Bool) (v
           up3 = up2 || eqb size 8
 
           up4 : Bool
-          up4 = up3 || again
+          up4 = up3 || already
 
           up5 : Bool
           up5 = up4 || pastRegister offset size
 
           not8 : eqb size 8 ≡ false
-          not8 = none-right up2 (eqb size 8) (none-left up3 again (none-left up4 (pastRegister offset size) (none-left up5 (not (openOffset (r .controls) true offset)) x)))
+          not8 = none-right up2 (eqb size 8) (none-left up3 already (none-left up4 (pastRegister offset size) (none-left up5 (not (openOffset (r .controls) true offset)) x)))
 
-      by : (a x : Bool) → accessExits (r .controls) true offset size fetch again ≡ x → Good p r write (writeBy (if a then Passthrough else (if x then Exit else Redirected)) p r offset size value)
+      by : (a x : Bool) → accessExits (r .controls) true offset size fetch already ≡ x → Good p r write (writeBy (if a then Passthrough else (if x then Exit else Redirected)) p r offset size value)
       by true x q = unchanged p r write g b (numbers 2 0 0) refl refl
       by false true q = exits p r write g b 44 (writeQualification offset) p (same-refl p g) refl
       by false false q = redirected-end q
@@ -295,8 +295,8 @@ module _ (p : List ℕ) (r : Record) (g : IsPage p) (b : ByteRecord r) where
   unfolding carriedOut rootOnly moveOf request memoryRead
   carried (Entry controls) i a = enters controls
   carried (Request vector) i a = good-request p r (Request vector) g b vector (ltb-true vector 256 (unfold eventInBounds in i)) (not-true (r .guest) (unfold allowed in a)) refl
-  carried (MemoryRead offset size fetch again) i a = reads p r (MemoryRead offset size fetch again) g b (memoryAccess (r .controls) false offset size fetch again) offset size fetch
-  carried (MemoryWrite offset size fetch again value) i a = writes p r offset size fetch again value g b (in-guest (MemoryWrite offset size fetch again value) refl a) i
+  carried (MemoryRead offset size fetch already) i a = reads p r (MemoryRead offset size fetch already) g b (memoryAccess (r .controls) false offset size fetch already) offset size fetch
+  carried (MemoryWrite offset size fetch already value) i a = writes p r offset size fetch already value g b (in-guest (MemoryWrite offset size fetch already value) refl a) i
   carried (ToCr8 value register) i a = loads value register (in-guest (ToCr8 value register) refl a)
   carried (FromCr8 register) i a = stores register
   carried (Rdmsr index) i a = reads-msr index

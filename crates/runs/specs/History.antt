@@ -15,8 +15,8 @@ use Rattle.runs.specs.Moves.{Move, stays, raises, delivers, retires, mov
 abbrev pub deliveryOn : Event → Type 0
 deliveryOn (Entry controls) = virtualDelivery controls ≡ true
 deliveryOn (Request vector) = Unit
-deliveryOn (MemoryRead offset size fetch again) = Unit
-deliveryOn (MemoryWrite offset size fetch again value) = Unit
+deliveryOn (MemoryRead offset size fetch already) = Unit
+deliveryOn (MemoryWrite offset size fetch already value) = Unit
 deliveryOn (ToCr8 value register) = Unit
 deliveryOn (FromCr8 register) = Unit
 deliveryOn (Rdmsr index) = Unit

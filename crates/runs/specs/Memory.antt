@@ -19,7 +19,7 @@ readBy Exit p r offset size fetch = exit 44 (readQualification offset fetch) p r
 readBy Redirected p r offset size fetch = redirected (readAt p offset size) p r
 
 unfoldable pub memoryRead : List ℕ → Record → ℕ → ℕ → Bool → Bool → After
-memoryRead p r offset size fetch again = readBy (memoryAccess (r .controls) false offset size fetch again) p r offset size fetch
+memoryRead p r offset size fetch already = readBy (memoryAccess (r .controls) false offset size fetch already) p r offset size fetch
 
 -- three bytes cleared
 unfoldable pub clearThree : List ℕ → ℕ → List ℕ
@@ -46,5 +46,5 @@ writeBy Exit p r offset size value = exit 44 (writeQualification offset) p r
 writeBy Redirected p r offset size value = written (storeAt p offset size value) r offset
 
 unfoldable pub memoryWrite : List ℕ → Record → ℕ → ℕ → Bool → Bool → ℕ → After
-memoryWrite p r offset size fetch again value =
-    writeBy (memoryAccess (r .controls) true offset size fetch again) p r offset size value
+memoryWrite p r offset size fetch already value =
+    writeBy (memoryAccess (r .controls) true offset size fetch already) p r offset size value

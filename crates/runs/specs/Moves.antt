@@ -60,8 +60,8 @@ wrmsrMove index value n =
 unfoldable pub moveOf : Event → Numbers → Move
 moveOf (Entry controls) n = stays
 moveOf (Request vector) n = raisesIf (isQuiet n) vector
-moveOf (MemoryRead offset size fetch again) n = stays
-moveOf (MemoryWrite offset size fetch again value) n = writeMove offset value n
+moveOf (MemoryRead offset size fetch already) n = stays
+moveOf (MemoryWrite offset size fetch already value) n = writeMove offset value n
 moveOf (ToCr8 value register) n = stays
 moveOf (FromCr8 register) n = stays
 moveOf (Rdmsr index) n = stays

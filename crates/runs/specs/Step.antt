@@ -18,8 +18,8 @@ use Rattle.runs.specs.Boundary.{boundary}
 unfoldable pub carriedOut : List ℕ → Record → Event → After
 carriedOut p r (Entry controls) = entry p r controls
 carriedOut p r (Request vector) = request p r vector
-carriedOut p r (MemoryRead offset size fetch again) = memoryRead p r offset size fetch again
-carriedOut p r (MemoryWrite offset size fetch again value) = memoryWrite p r offset size fetch again value
+carriedOut p r (MemoryRead offset size fetch already) = memoryRead p r offset size fetch already
+carriedOut p r (MemoryWrite offset size fetch already value) = memoryWrite p r offset size fetch already value
 carriedOut p r (ToCr8 value register) = movToCr8 p r value register
 carriedOut p r (FromCr8 register) = movFromCr8 p r register
 carriedOut p r (Rdmsr index) = readMsr p r index

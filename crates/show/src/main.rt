@@ -41,7 +41,7 @@ fn write_of_four(offset: u16, value: u64) -> Event {
         offset,
         size: 4,
         fetch: false,
-        again: false,
+        already: false,
         value,
     }
 }
