@@ -24,7 +24,7 @@ static void write_eoi(struct stage *s)
     stage_step(s, gg_memory_write(GG_VEOI, 4, 0, 0));
 }
 
-/* The events of K1 under the given controls, expecting nothing yet. */
+/* The events of K1 under the given controls, up to its boundary, whose answer is left to the caller. */
 static void after_k1(struct stage *s, uint64_t controls)
 {
     stage_fresh(s);

@@ -33,7 +33,7 @@ void expect_recognised(struct stage *s, uint8_t recognised);
 void expect_mode(struct stage *s, uint8_t mode);
 void expect_true(struct stage *s, int truth, const char *what);
 
-/* Nothing but the named step's record may differ from a state kept earlier. */
+/* The page has to be that of a state kept before. */
 void expect_page(struct stage *s, const struct trial *kept);
 
 #endif

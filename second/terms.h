@@ -1,4 +1,4 @@
-/* Document 01's numbers: offsets, controls, kinds, answers. */
+/* Document 01's offsets, control bits and answers, and the kinds of event that the header numbers. */
 #ifndef TERMS_H
 #define TERMS_H
 
@@ -8,7 +8,7 @@
 enum { PAGE = 4096 };
 enum { VTPR = 0x080, VPPR = 0x0A0, VEOI = 0x0B0, VISR = 0x100, VIRR = 0x200 };
 enum { ICR_LOW = 0x300, ICR_HIGH = 0x310 };
-/* Control bit numbers, kinds and answers in document 01's order. */
+/* Control bit numbers and answers are document 01's; kinds are the header's. */
 enum { SHADOW, ACCESSES, X2APIC, REGISTERS, DELIVERY, EXTERNAL, WINDOW, CR8_LOAD, CR8_STORE, CONTROLS };
 enum { ENTRY = 1, READ, WRITE, TO_CR8, FROM_CR8, RDMSR, WRMSR, BOUNDARY, REQUEST };
 enum { REFUSED, REDIRECTED, PASSTHROUGH, FAULTED, EXITED, DELIVERED, QUIET };

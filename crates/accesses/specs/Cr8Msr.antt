@@ -53,7 +53,7 @@ unfoldable pub wrmsrFollowing : ℕ → ℕ → MsrWrite
 wrmsrFollowing index value =
     if eqb index 0x808 then Tpr
     else if eqb index 0x80b then Eoi
-    else if ltb value 16 then ApicWrite
+    else if ltb (value % 0x100) 16 then ApicWrite
     else SelfIpi
 
 unfoldable pub wrmsr : Controls → ℕ → ℕ → MsrWrite

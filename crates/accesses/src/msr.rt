@@ -51,7 +51,7 @@ fn wrmsr_following(index: u32, value: u64) -> MsrWrite
     if index == 0x80b {
         return MsrWrite::Eoi;
     }
-    if value < 16 {
+    if value % 0x100 < 16 {
         return MsrWrite::ApicWrite;
     }
     MsrWrite::SelfIpi

@@ -1,4 +1,4 @@
--- The two laws over one event: it makes the move that its answer names, and it keeps a settled record settled. One walk over the
+-- The two laws over one event: it makes the move that it names with its answer, and it keeps a settled record settled. One walk over the
 -- event's cases proves both. Assumes nothing.
 use Prim.Native.Nat.{ℕ, _+_, _*_, _/_, _%_, _≤_, _<_}
 use native.Mathlib.Omega.{arith}
@@ -238,7 +238,7 @@ module _ (p : List ℕ) (r : Record) (index value : ℕ) (g : IsPage p) (b : Byt
       by : (h : Bool) → wrmsrHandled (r .controls) index ≡ h → (f : Bool) → Good p r wrmsrEvent (writeMsrBy (if not h then MsrPassthrough else (if f then Fault else wrmsrFollowing index value)) p r index value)
       by false e f = unchanged p r wrmsrEvent g b (numbers 2 0 0) refl refl
       by true e true = unchanged p r wrmsrEvent g b (numbers 3 0 0) refl refl
-      by true e false = msr-follows (eqb index 0x808) (eqb index 0x80b) (ltb value 16) refl refl e
+      by true e false = msr-follows (eqb index 0x808) (eqb index 0x80b) (ltb (value % 0x100) 16) refl refl e
 
 -- ---- the other events
 module _ (p : List ℕ) (r : Record) (g : IsPage p) (b : ByteRecord r) where

@@ -165,7 +165,7 @@ k7 = afterK1Write 0x0004_000f (exit 56 0x300) false 0 false [] ∷ afterK1Write 
 -- PPR virtualization alone: VTPR and SVI, and the VPPR that comes of them
 abbrev pprRow : ℕ → ℕ → ℕ → Row
 pprRow vtprValue svi vpprValue =
-    record { begin = record { page = vtprPage vtprValue; state = guestWith controlsV svi }; deed = pprAlone; answers = []; guest = true; rvi = 0; svi = svi; recognised = false; words = word 0x0a0 vpprValue ∷ [] }
+    record { begin = record { page = vtprPage vtprValue; state = guestWith (controls 0 0) svi }; deed = pprAlone; answers = []; guest = true; rvi = 0; svi = svi; recognised = false; words = word 0x0a0 vpprValue ∷ [] }
 
 abbrev pub k8 : List Row
 k8 = pprRow 0x6f 0x60 0x6f ∷ pprRow 0x5f 0x63 0x60 ∷ []

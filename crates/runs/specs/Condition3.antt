@@ -1,4 +1,4 @@
--- Condition 3 of the tender, one definition to a sentence, of what is held after a run.
+-- Condition 3 of the tender, one definition to a sentence, of what is held after a run. In brackets: what is stated besides.
 use Prim.Native.Nat.{ℕ, zero, suc, _+_, _≤_, _<_}
 use mathlib.Core.Path.{_≡_}
 use mathlib.Core.Bool.{Bool, true, false, not, _&&_}
@@ -18,8 +18,8 @@ pub record Highest (h : Held) : Type 0 where
   pub rvi : h .state .rvi ≡ highest (h .page) virr
   pub svi : h .state .svi ≡ highest (h .page) visr
 
--- Inside the guest an interrupt is recognised exactly when interrupt-window exiting is off and RVI's class exceeds VPPR's; outside,
--- none is.
+-- Inside the guest an interrupt is recognised exactly when interrupt-window exiting is off and RVI's class exceeds VPPR's (outside,
+-- none is).
 abbrev pub recognisedNow : Held → Bool
 recognisedNow h =
     if h .state .guest
@@ -39,7 +39,7 @@ Rising [] = Unit
 Rising (v ∷ []) = Unit
 Rising (v ∷ u ∷ us) = (class u < class v) × Rising (u ∷ us)
 
--- Each virtualised EOI retires the latest if there is one; with none in service it changes no service bit; nothing else retires any.
+-- Each virtualised EOI retires the latest if there is one (with none in service it changes no service bit); nothing else retires any.
 abbrev pub without : List ℕ → (ℕ → Bool) → ℕ → Bool
 without [] f = f
 without (v ∷ vs) f = put f v false
@@ -67,6 +67,6 @@ depth h = count (isSet (h .page) visr) 256
 pub record AtMost15 (h : Held) : Type 0 where
   pub bound : depth h ≤ 15
 
--- No vector below 16 is ever delivered.
+-- (No vector below 16 is ever delivered.)
 abbrev pub Delivers16 : Held → Event → Type 0
 Delivers16 h e = isDelivered (stepOf h e .answer) ≡ true → 16 ≤ stepOf h e .answer .first

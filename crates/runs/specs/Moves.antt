@@ -1,4 +1,4 @@
--- The moves: every event does to VIRR, VISR, RVI and SVI one of four things, and its answer says which.
+-- The moves: every event does to VIRR, VISR, RVI and SVI one of four things; the event and its answer say which.
 use Prim.Native.Nat.{ℕ, _%_, _<_}
 use mathlib.Core.Path.{_≡_}
 use mathlib.Core.Bool.{Bool, true, false, _&&_, _||_}

@@ -1,3 +1,4 @@
+-- `capi::gg_fresh` meets its contract: code and definition take the same cases. Assumes nothing.
 use mathlib.Core.Path.{refl}
 use borrow.Author.Tests.{eq-eqb, ne-eqb}
 use Rattle.capi.specs.Calls.{ggFresh}

@@ -1,4 +1,4 @@
--- `accesses::memory::marks` meets its contract: code and definition take the same cases. Assumes nothing.
+-- `accesses::memory::marks` meets its contract: the table carries the rule within it, and nothing is open past it. Assumes nothing.
 use native.Mathlib.Omega.{arith}
 use Rattle.accesses.proofs.Open.{within, past}
 use borrow.Author.Needs.{needs}

@@ -1,4 +1,4 @@
--- `open_table` meets its contract: the test passes at every offset of the table.
+-- `accesses::memory::open_table` meets its contract: the test passes at every offset of the table. Assumes nothing.
 use Rattle.accesses.proofs.memory.open_table.Statement.{statement}
 use Rattle.accesses.proofs.memory.open_table.Tie as tie
 

@@ -1,3 +1,4 @@
+-- `capi::controls::controls_bytes` meets its contract: code and definition take the same cases. Assumes nothing.
 use Prim.Native.Nat.{ℕ}
 use mathlib.Core.Path.{_≡_}
 use mathlib.Core.List.{List}

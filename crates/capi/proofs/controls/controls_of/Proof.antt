@@ -1,3 +1,4 @@
+-- `capi::controls::controls_of` meets its contract: code and definition take the same cases. Assumes nothing.
 use Rattle.capi.specs.Records.{controlsOf}
 use Rattle.capi.proofs.controls.controls_of.Statement.{statement}
 use Rattle.capi.proofs.controls.controls_of.Tie as tie

@@ -1,3 +1,4 @@
+-- `capi::events::boundary_of` meets its contract: code and definition take the same cases. Assumes nothing.
 use Rattle.capi.specs.Events.{boundaryOf}
 use Rattle.capi.proofs.events.boundary_of.Statement.{statement}
 use Rattle.capi.proofs.events.boundary_of.Tie as tie

@@ -1,3 +1,4 @@
+-- `capi::events::event_of` meets its contract: code and definition take the same cases. Assumes nothing.
 use borrow.Author.Tests.{ne-eqb}
 use Rattle.capi.specs.Events.{eventOf}
 use Rattle.capi.proofs.events.event_of.Statement.{statement}

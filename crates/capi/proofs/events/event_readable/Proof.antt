@@ -1,3 +1,4 @@
+-- `capi::events::event_readable` meets its contract: code and definition take the same cases. Assumes nothing.
 use Rattle.capi.specs.Events.{eventReadable}
 use Rattle.capi.proofs.events.event_readable.Statement.{statement}
 use Rattle.capi.proofs.events.event_readable.Tie as tie
@@ -11,39 +12,30 @@ use Rattle.page.proofs.bytes.byte_at.Reads as byte-at-reads
 use Rattle.page.proofs.bytes.long_at.Reads as long-at-reads
 use Rattle.page.proofs.bytes.word_at.Reads as word-at-reads
 
--- src/events.rt:60:9
 byte-at-requires : tie.Need-byte-at-requires
 byte-at-requires c κs = tt
 
--- src/events.rt:61:9
 byte-at-requires-2 : tie.Need-byte-at-requires-2
 byte-at-requires-2 c κs = tt
 
--- src/events.rt:62:9
 word-at-requires : tie.Need-word-at-requires
 word-at-requires c κs = tt
 
--- src/events.rt:63:9
 long-at-requires : tie.Need-long-at-requires
 long-at-requires c κs = tt
 
--- src/events.rt:64:5
 kind-readable-requires : tie.Need-kind-readable-requires
 kind-readable-requires c κs = tt
 
--- src/events.rt:65:11
 flags-readable-requires : tie.Need-flags-readable-requires
 flags-readable-requires c κs = tt
 
--- src/events.rt:66:11
 number-readable-requires : tie.Need-number-readable-requires
 number-readable-requires c κs = tt
 
--- src/events.rt:67:11
 value-readable-requires : tie.Need-value-readable-requires
 value-readable-requires c κs = tt
 
--- src/events.rt:57:1
 returns : tie.Need-returns
 unfolding eventReadable
 returns c = simp (← (c .before .before .before .before .before .before .before .byte-at .ensures), ← (c .before .before .before .before .before .before .byte-at2 .ensures), ← (c .before .before .before .before .before .word-at .ensures), ← (c .before .before .before .before .long-at .ensures), ← (c .before .before .before .kind-readable .ensures), ← (c .before .before .flags-readable .ensures), ← (c .before .number-readable .ensures), ← (c .value-readable .ensures))

@@ -1,3 +1,4 @@
+-- `capi::events::flags_readable` meets its contract: code and definition take the same cases. Assumes nothing.
 use Rattle.capi.proofs.events.flags_readable.Statement.{statement}
 use Rattle.capi.proofs.events.flags_readable.Tie as tie
 

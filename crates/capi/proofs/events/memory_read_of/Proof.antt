@@ -1,3 +1,4 @@
+-- `capi::events::memory_read_of` meets its contract: code and definition take the same cases. Assumes nothing.
 use Rattle.capi.specs.Events.{memoryReadOf}
 use borrow.Author.Needs.{needs}
 use Rattle.capi.proofs.events.memory_read_of.Statement.{statement}

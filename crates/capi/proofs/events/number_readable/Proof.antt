@@ -1,3 +1,4 @@
+-- `capi::events::number_readable` meets its contract: code and definition take the same cases. Assumes nothing.
 use Rattle.capi.proofs.events.number_readable.Statement.{statement}
 use Rattle.capi.proofs.events.number_readable.Tie as tie
 

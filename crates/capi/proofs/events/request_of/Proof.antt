@@ -1,3 +1,4 @@
+-- `capi::events::request_of` meets its contract: code and definition take the same cases. Assumes nothing.
 use Rattle.capi.specs.Events.{requestOf}
 use borrow.Author.Needs.{needs}
 use Rattle.capi.proofs.events.request_of.Statement.{statement}

@@ -1,3 +1,4 @@
+-- `capi::events::to_cr8_of` meets its contract: code and definition take the same cases. Assumes nothing.
 use Rattle.capi.specs.Events.{toCr8Of}
 use borrow.Author.Needs.{needs}
 use Rattle.capi.proofs.events.to_cr8_of.Statement.{statement}

@@ -1,3 +1,4 @@
+-- `capi::events::wrmsr_of` meets its contract: code and definition take the same cases. Assumes nothing.
 use Rattle.capi.specs.Events.{wrmsrOf}
 use Rattle.capi.proofs.events.wrmsr_of.Statement.{statement}
 use Rattle.capi.proofs.events.wrmsr_of.Tie as tie

@@ -1,3 +1,4 @@
+-- `capi::numbers::numbers_of` meets its contract: code and definition take the same cases. Assumes nothing.
 use borrow.Author.Needs.{needs}
 use Rattle.capi.proofs.numbers.numbers_of.Statement.{statement}
 use Rattle.capi.proofs.numbers.numbers_of.Tie as tie

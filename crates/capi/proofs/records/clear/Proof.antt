@@ -1,3 +1,4 @@
+-- `capi::records::clear` meets its contract: code and definition take the same cases. Assumes nothing.
 use Prim.Native.Nat.{ℕ, _-_, _≤_, zero-le}
 use native.Mathlib.Nat.{le-antisymm}
 use native.Mathlib.Numerals.{add-one-le}

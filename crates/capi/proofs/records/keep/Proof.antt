@@ -1,3 +1,4 @@
+-- `capi::records::keep` meets its contract: code and definition take the same cases. Assumes nothing.
 use borrow.Author.Tests.{eq-eqb, ne-eqb}
 use Rattle.capi.specs.Records.{kept}
 use borrow.Author.Needs.{needs}

@@ -1,3 +1,4 @@
+-- `capi::records::record_bytes` meets its contract: code and definition take the same cases. Assumes nothing.
 use Rattle.capi.specs.Records.{recordBytes}
 use borrow.Author.Needs.{needs}
 use Rattle.capi.proofs.records.record_bytes.Statement.{statement}

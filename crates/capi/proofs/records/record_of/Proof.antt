@@ -1,3 +1,4 @@
+-- `capi::records::record_of` meets its contract: code and definition take the same cases. Assumes nothing.
 use Rattle.capi.specs.Records.{recordOf}
 use Rattle.capi.proofs.records.record_of.Statement.{statement}
 use Rattle.capi.proofs.records.record_of.Tie as tie

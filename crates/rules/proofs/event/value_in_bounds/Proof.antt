@@ -1,4 +1,5 @@
--- `value_in_bounds` meets its contract: at each size the bound is the power that the size names, and at 8 every value fits.
+-- `rules::event::value_in_bounds` meets its contract: at each size the bound is the power that the size names, and at 8 every value
+-- fits. Assumes nothing.
 use Prim.Native.Nat.{ℕ, _<_, _*_, _^_}
 use mathlib.Core.Path.{_≡_, refl}
 use mathlib.Core.Bool.{Bool, true, false, _&&_}
