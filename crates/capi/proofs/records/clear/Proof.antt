@@ -1,4 +1,4 @@
--- `capi::records::clear` meets its contract: code and definition take the same cases. Assumes nothing.
+-- `capi::records::clear` meets its contract: what the loop has passed is 0, the rest is as it was. Assumes nothing.
 use Prim.Native.Nat.{ℕ, _-_, _≤_, zero-le}
 use native.Mathlib.Nat.{le-antisymm}
 use native.Mathlib.Numerals.{add-one-le}
