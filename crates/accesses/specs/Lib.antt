@@ -1,3 +1,2 @@
 pub mod Memory
 pub mod Marks
-pub mod Cr8Msr

@@ -1,4 +1,2 @@
-// What a memory, CR8 or MSR access comes to, decided from numbers alone. Nothing here holds a page.
-pub mod cr8;
+// What a memory access comes to, decided from numbers alone. Nothing here holds a page.
 pub mod memory;
-pub mod msr;

@@ -2,8 +2,8 @@
 use Prim.Native.Nat.{ℕ}
 use mathlib.Core.Path.{_≡_, refl, _∙_, ap}
 use mathlib.Core.List.{List}
-use Rattle.rules.specs.Answers.{numbers, numbersOf}
-use Rattle.rules.specs.declared.answer.Outcome.{Outcome}
+use Rattle.events.specs.Answers.{numbers, numbersOf}
+use Rattle.events.specs.declared.answer.Outcome.{Outcome}
 use Rattle.runs.specs.After.{After, Leaves}
 use Rattle.capi.specs.declared.numbers.Numbers.{Numbers}
 use Rattle.capi.specs.Records.{kept}

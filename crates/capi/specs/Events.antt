@@ -4,8 +4,8 @@ use mathlib.Core.Bool.{Bool, not, _&&_, _||_}
 use mathlib.Core.List.{List}
 use lib.Dec.{eqb, ltb}
 use Rattle.processor.specs.Logic.{if_then_else_, bit}
-use Rattle.rules.specs.declared.event.Event.{Event}
-use Rattle.rules.specs.declared.event.Event.the-variants.{Entry, Request, MemoryRead, MemoryWrite, ToCr8, FromCr8, Rdmsr, Wrmsr, Boundary}
+use Rattle.events.specs.declared.event.Event.{Event}
+use Rattle.events.specs.declared.event.Event.the-variants.{Entry, Request, MemoryRead, MemoryWrite, ToCr8, FromCr8, Rdmsr, Wrmsr, Boundary}
 use Rattle.page.specs.Page.{byteAt, wordAt, longAt}
 use Rattle.capi.specs.Records.{controlsOf}
 

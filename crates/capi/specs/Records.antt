@@ -6,7 +6,8 @@ use lib.Dec.{eqb, ltb}
 use Rattle.processor.specs.Logic.{if_then_else_}
 use Rattle.processor.specs.declared.controls.Controls.{Controls}
 use Rattle.processor.specs.declared.controls.Record.{Record}
-use Rattle.page.specs.Page.{byteAt, wordAt, longAt, setByte, setWord, setLong}
+use Rattle.page.specs.Page.{byteAt, wordAt, longAt}
+use Rattle.stores.specs.Stores.{setByte, setWord, setLong}
 
 -- threshold u32 at 4, flags u64 at 8, EOI-exit words u64 at 16, 24, 32, 40; an entry's event has them at the same places
 unfoldable pub controlsOf : List ℕ → Controls

@@ -1,5 +1,5 @@
 -- An answer's number and its two values, as the code holds them.
-use Rattle.rules.specs.Answers.{Numbers as AnswerNumbers}
+use Rattle.events.specs.Answers.{Numbers as AnswerNumbers}
 use Rattle.capi.specs.declared.numbers.Numbers.{Numbers}
 
 abbrev pub told : AnswerNumbers → Numbers

@@ -2,10 +2,10 @@
 ghost use mathlib.Core.Path.{_≡_};
 ghost use Rattle.capi.specs.Records.{controlsOf, controlsBytes};
 use page::bytes::long_at;
-use page::bytes::set_long;
-use page::bytes::set_word;
 use page::bytes::word_at;
 use processor::controls::Controls;
+use stores::bytes::set_long;
+use stores::bytes::set_word;
 
 const THRESHOLD: u32 = 4;
 

@@ -1,7 +1,7 @@
 // The boundary that a C simulator links: a lent page, a record and an event as bytes, an answer as numbers.
 ghost use Rattle.capi.specs.Calls.{Replies, FreshReplies, ggStep, ggFresh};
-use events::event_of;
-use events::event_readable;
+use event_bytes::event_of;
+use event_bytes::event_readable;
 use numbers::Numbers;
 use numbers::numbers_of;
 use numbers::refused;
@@ -11,7 +11,7 @@ use records::record_of;
 use records::record_readable;
 
 mod controls;
-mod events;
+mod event_bytes;
 mod numbers;
 mod records;
 

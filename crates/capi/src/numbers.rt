@@ -1,8 +1,8 @@
 // An answer's number and its two values, at the widths that C receives.
 ghost use mathlib.Core.Path.{_≡_};
-ghost use Rattle.rules.specs.Answers.{numbers, numbersOf};
+ghost use Rattle.events.specs.Answers.{numbers, numbersOf};
 ghost use Rattle.capi.specs.Told.{told as toldOf};
-use rules::answer::Answer;
+use events::answer::Answer;
 
 pub struct Numbers {
     pub answer: u32,

@@ -5,8 +5,8 @@ ghost use Rattle.capi.specs.Records.{recordReadable, recordOf, truthByte
 use crate::controls::controls_bytes;
 use crate::controls::controls_of;
 use page::bytes::byte_at;
-use page::bytes::set_byte;
 use processor::controls::Record;
+use stores::bytes::set_byte;
 
 const MODE: usize = 0;
 

@@ -4,12 +4,12 @@ use native.Mathlib.Omega.{arith}
 use mathlib.Core.Path.{_≡_, sym, _∙_, ap}
 use mathlib.Core.Bool.{Bool, true, false, not}
 use borrow.Author.Tests.{ltb-true, not-false}
-use Rattle.rules.specs.Events.{eventInBounds, inBounds}
+use Rattle.events.specs.Events.{eventInBounds, inBounds}
 use Rattle.processor.specs.Controls.{flagsInBounds}
 use Rattle.processor.proofs.Tests.{right}
 use Rattle.processor.specs.declared.controls.Record.{Record}
-use Rattle.rules.specs.declared.event.Event.{Event}
-use Rattle.rules.specs.declared.event.Event.the-variants.{Request}
+use Rattle.events.specs.declared.event.Event.{Event}
+use Rattle.events.specs.declared.event.Event.the-variants.{Request}
 
 -- a requested vector is a byte
 pub byte-vector : (e : Event) (v : ℕ) → e ≡ Request v → eventInBounds e ≡ true → v % 256 ≡ v

@@ -8,13 +8,13 @@ use crate::outcome::quiet;
 use crate::procedures::VIRR;
 use crate::procedures::VISR;
 use crate::procedures::VPPR;
-use page::bytes::set_word;
+use events::answer::Outcome;
 use processor::controls::Record;
 use registers::vectors::highest_vector;
 use registers::vectors::put_vector;
-use rules::answer::Outcome;
 use rules::procedures::low_cleared;
 use rules::procedures::open_boundary;
+use stores::bytes::set_word;
 
 fn move_to_service(page: &mut [u8], vector: u8)
     ensures { λ _. ⌜ now (page .exit) ≡ deliveredPage (now (page .entry)) vector ⌝ }

@@ -7,16 +7,16 @@ use crate::outcome::passthrough;
 use crate::outcome::redirected;
 use crate::procedures::VTPR;
 use crate::procedures::tpr_virtualization;
-use accesses::cr8::from_cr8;
-use accesses::cr8::from_cr8_qualification;
-use accesses::cr8::to_cr8;
-use accesses::cr8::to_cr8_qualification;
 use accesses::memory::Access;
+use events::answer::Outcome;
+use instructions::cr8::from_cr8;
+use instructions::cr8::from_cr8_qualification;
+use instructions::cr8::to_cr8;
+use instructions::cr8::to_cr8_qualification;
 use page::bytes::byte_at;
-use page::bytes::set_word;
 use processor::controls::Record;
-use rules::answer::Outcome;
 use rules::procedures::class_of;
+use stores::bytes::set_word;
 
 pub fn mov_to_cr8(page: &mut [u8], record: Record, value: u8, register: u8) -> Outcome
     ensures { λ r. ⌜ Leaves (movToCr8 (now (page .entry)) «record» value register) r (now (page .exit)) ⌝ }

@@ -10,11 +10,11 @@ use crate::procedures::VTPR;
 use crate::procedures::evaluated_quiet;
 use crate::procedures::ppr_virtualization;
 use crate::procedures::requested;
+use events::answer::Outcome;
 use page::bytes::byte_at;
 use processor::controls::Controls;
 use processor::controls::Record;
 use registers::vectors::put_vector;
-use rules::answer::Outcome;
 use rules::entry::exits_at_entry;
 use rules::entry::failing_check;
 

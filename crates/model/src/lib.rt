@@ -1,13 +1,12 @@
 // The base model: one event at a time on a lent page.
 ghost use mathlib.Core.Path.{_≡_};
-ghost use Rattle.processor.specs.Controls.{fresh};
 ghost use Rattle.runs.specs.After.{Leaves};
 ghost use Rattle.runs.specs.Step.{carriedOut, step as stepOf};
-ghost use Rattle.rules.specs.Events.{eventInBounds};
+ghost use Rattle.events.specs.Events.{eventInBounds};
 ghost use mathlib.Core.Bool.{true};
+use events::answer::Outcome;
+use events::event::Event;
 use processor::controls::Record;
-use rules::answer::Outcome;
-use rules::event::Event;
 
 mod boundary;
 mod cr8;
@@ -18,11 +17,7 @@ mod outcome;
 mod procedures;
 
 // The record before any event: root mode, all zero.
-pub fn fresh_record() -> Record
-    ensures { λ r. ⌜ r ≡ fresh ⌝ }
-{
-    processor::controls::fresh_record()
-}
+pub use processor::controls::fresh_record;
 
 fn carry_out(page: &mut [u8], record: Record, event: Event) -> Outcome
     requires { ⌜ eventInBounds event ≡ true ⌝ }
@@ -64,10 +59,10 @@ pub fn step(page: &mut [u8], record: Record, event: Event) -> Outcome
     if page.len() != 4096 {
         return outcome::refused(record, 1, 0);
     }
-    if !rules::event::in_bounds(record, event) {
+    if !events::event::in_bounds(record, event) {
         return outcome::refused(record, 2, 0);
     }
-    if !rules::event::is_allowed(record, event) {
+    if !events::event::is_allowed(record, event) {
         return outcome::refused(record, 3, 0);
     }
     carry_out(page, record, event)

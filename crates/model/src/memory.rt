@@ -16,14 +16,14 @@ use accesses::memory::memory_access;
 use accesses::memory::read_qualification;
 use accesses::memory::write_following;
 use accesses::memory::write_qualification;
+use events::answer::Outcome;
 use page::bytes::byte_at;
 use page::bytes::read_at;
-use page::bytes::set_byte;
-use page::bytes::set_word;
-use page::bytes::store_at;
 use page::bytes::word_at;
 use processor::controls::Record;
-use rules::answer::Outcome;
+use stores::bytes::set_byte;
+use stores::bytes::set_word;
+use stores::bytes::store_at;
 
 const VEOI: u32 = 0x0b0;
 

@@ -9,14 +9,14 @@ use crate::outcome::redirected;
 use crate::procedures::eoi_virtualization;
 use crate::procedures::self_ipi_virtualization;
 use crate::procedures::tpr_virtualization;
-use accesses::msr::MsrWrite;
-use accesses::msr::msr_offset;
-use accesses::msr::rdmsr_redirected;
-use accesses::msr::wrmsr_of;
+use events::answer::Outcome;
+use instructions::msr::MsrWrite;
+use instructions::msr::msr_offset;
+use instructions::msr::rdmsr_redirected;
+use instructions::msr::wrmsr_of;
 use page::bytes::long_at;
-use page::bytes::set_long;
 use processor::controls::Record;
-use rules::answer::Outcome;
+use stores::bytes::set_long;
 
 pub fn read_msr(page: &[u8], record: Record, index: u32) -> Outcome
     ensures { λ r. ⌜ Leaves (readMsr (now (page .entry)) «record» index) r (now (page .entry)) ⌝ }

@@ -2,9 +2,9 @@
 ghost use Prim.Native.Nat.{ℕ};
 ghost use mathlib.Core.List.{List};
 ghost use Rattle.runs.specs.After.{Leaves, refused as refusedOf, redirected as redirectedOf, passthrough as passthroughOf, fault as faultOf, exit as exitOf, delivered as deliveredOf, quiet as quietOf};
+use events::answer::Answer;
+use events::answer::Outcome;
 use processor::controls::Record;
-use rules::answer::Answer;
-use rules::answer::Outcome;
 
 pub fn refused(record: Record, number: u8, check: u8) -> Outcome
     ensures { λ r. ⌜ ((p : List ℕ) → Leaves (refusedOf number check p «record») r p) ⌝ }

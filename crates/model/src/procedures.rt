@@ -4,16 +4,16 @@ ghost use Rattle.runs.specs.After.{Leaves};
 ghost use Rattle.runs.specs.Procedures.{pprVirtualization, evaluation as evaluationOf, evaluatedQuiet, tprVirtualization, retiredPage, retiredRecord, eoiEnd, eoiVirtualization, requestedPage, requestedRecord, selfIpiVirtualization};
 use crate::outcome::exit;
 use crate::outcome::quiet;
+use events::answer::Outcome;
 use page::bytes::byte_at;
-use page::bytes::set_word;
 use processor::controls::Record;
 use registers::vectors::highest_vector;
 use registers::vectors::put_vector;
-use rules::answer::Outcome;
 use rules::procedures::below_threshold;
 use rules::procedures::evaluates;
 use rules::procedures::larger_of;
 use rules::procedures::ppr_of;
+use stores::bytes::set_word;
 
 pub const VTPR: usize = 0x080;
 

@@ -2,7 +2,7 @@
 ghost use mathlib.Core.Path.{_≡_};
 ghost use Prim.Native.Nat.{_+_, _≤_, _<_, _^_};
 ghost use lib.ListN.{length};
-ghost use Rattle.page.specs.Page.{wordOf, byteAt, halfAt, wordAt, longAt, readAt, setByte, setHalf, setWord, setLong, storeAt};
+ghost use Rattle.page.specs.Page.{wordOf, byteAt, halfAt, wordAt, longAt, readAt};
 
 pub fn byte_at(page: &[u8], at: usize) -> u8
     ensures { λ r. ⌜ r ≡ byteAt (now (page .entry)) at ⌝ }
@@ -103,102 +103,4 @@ pub fn read_at(page: &[u8], offset: u16, size: u8) -> u64
         return word_at(page, offset as u32) as u64;
     }
     long_at(page, offset)
-}
-
-pub fn set_byte(page: &mut [u8], at: usize, value: u8)
-    ensures { λ _. ⌜ now (page .exit) ≡ setByte (now (page .entry)) at value ⌝ }
-{
-    if at < page.len() {
-        page[at] = value;
-    }
-}
-
-fn set_half(page: &mut [u8], offset: u16, value: u16)
-    ensures { λ _. ⌜ now (page .exit) ≡ setHalf (now (page .entry)) offset value ⌝ }
-{
-    let at = offset as usize;
-    set_byte(page, at, (value % 0x100) as u8);
-    set_byte(page, at + 1, (value / 0x100 % 0x100) as u8);
-}
-
-// Four bytes that the slice has.
-fn set_whole_word(page: &mut [u8], at: usize, value: u32)
-    requires { ⌜ at + 4 ≤ length (now page) ⌝ }
-    ensures { λ _. ⌜ now (page .exit) ≡ setWord (now (page .entry)) at value ⌝ }
-{
-    page[at] = (value % 0x100) as u8;
-    page[at + 1] = (value / 0x100 % 0x100) as u8;
-    page[at + 2] = (value / 0x1_0000 % 0x100) as u8;
-    page[at + 3] = (value / 0x100_0000 % 0x100) as u8;
-}
-
-// Four bytes some of which may lie past the end.
-fn set_part_word(page: &mut [u8], at: u64, value: u32)
-    requires { ⌜ at < 2 ^ 33 ⌝ }
-    ensures { λ _. ⌜ now (page .exit) ≡ setWord (now (page .entry)) at value ⌝ }
-{
-    let from = at as usize;
-    set_byte(page, from, (value % 0x100) as u8);
-    set_byte(page, from + 1, (value / 0x100 % 0x100) as u8);
-    set_byte(page, from + 2, (value / 0x1_0000 % 0x100) as u8);
-    set_byte(page, from + 3, (value / 0x100_0000 % 0x100) as u8);
-}
-
-pub fn set_word(page: &mut [u8], offset: u32, value: u32)
-    ensures { λ _. ⌜ now (page .exit) ≡ setWord (now (page .entry)) offset value ⌝ }
-{
-    let at = offset as usize;
-    if at + 4 <= page.len() {
-        set_whole_word(page, at, value);
-        return;
-    }
-    set_part_word(page, offset as u64, value);
-}
-
-// Eight bytes that the slice has.
-fn set_whole_long(page: &mut [u8], at: usize, value: u64)
-    requires { ⌜ at + 8 ≤ length (now page) ⌝ }
-    ensures { λ _. ⌜ now (page .exit) ≡ setLong (now (page .entry)) at value ⌝ }
-{
-    set_whole_word(page, at, (value % 0x1_0000_0000) as u32);
-    set_whole_word(page, at + 4, (value / 0x1_0000_0000) as u32);
-}
-
-// Eight bytes some of which may lie past the end.
-fn set_part_long(page: &mut [u8], offset: u16, value: u64)
-    ensures { λ _. ⌜ now (page .exit) ≡ setLong (now (page .entry)) offset value ⌝ }
-{
-    let at = offset as u32;
-    set_word(page, at, (value % 0x1_0000_0000) as u32);
-    set_word(page, at + 4, (value / 0x1_0000_0000) as u32);
-}
-
-pub fn set_long(page: &mut [u8], offset: u16, value: u64)
-    ensures { λ _. ⌜ now (page .exit) ≡ setLong (now (page .entry)) offset value ⌝ }
-{
-    let at = offset as usize;
-    if at + 8 <= page.len() {
-        set_whole_long(page, at, value);
-        return;
-    }
-    set_part_long(page, offset, value);
-}
-
-// The bytes of a write, by its size.
-pub fn store_at(page: &mut [u8], offset: u16, size: u8, value: u64)
-    ensures { λ _. ⌜ now (page .exit) ≡ storeAt (now (page .entry)) offset size value ⌝ }
-{
-    if size == 1 {
-        set_byte(page, offset as usize, (value % 0x100) as u8);
-        return;
-    }
-    if size == 2 {
-        set_half(page, offset, (value % 0x1_0000) as u16);
-        return;
-    }
-    if size == 4 {
-        set_word(page, offset as u32, (value % 0x1_0000_0000) as u32);
-        return;
-    }
-    set_long(page, offset, value);
 }

@@ -6,7 +6,7 @@ use lib.Dec.{T, eqb, eqb→eq}
 use lib.Bits.{bitOr, bitAnd}
 use Rattle.processor.specs.Logic.{allBelow}
 use Rattle.processor.proofs.Tests.{below}
-use Rattle.page.specs.Page.{putBit}
+use Rattle.registers.specs.Vectors.{putBit}
 
 -- two functions of a byte and a bit that agree wherever antt computes them agree
 everywhere : (f g : ℕ → ℕ → ℕ) → T (allBelow 256 (λ b. allBelow 8 (λ k. eqb (f b k) (g b k)))) → (b k : ℕ) → b < 256 → k < 8 → f b k ≡ g b k

@@ -8,7 +8,8 @@ use mathlib.Core.Bool.{Bool, true, false}
 use mathlib.Core.List.{List}
 use borrow.Author.Tests.{eq-eqb, ne-eqb}
 use Rattle.processor.specs.Logic.{if_then_else_, bit}
-use Rattle.page.specs.Page.{byteAt, wordAt, isSet, highestBit, highest}
+use Rattle.page.specs.Page.{byteAt, wordAt}
+use Rattle.registers.specs.Vectors.{isSet, highestBit, highest}
 use Rattle.registers.proofs.Top.{top, highest-top}
 use Rattle.registers.proofs.Words.{vector-in-word}
 

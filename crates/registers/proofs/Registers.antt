@@ -12,7 +12,9 @@ use borrow.Author.Tests.{eqb-true, eqb-false, eq-eqb, ne-eqb}
 use Rattle.processor.specs.Logic.{if_then_else_, bit, allBelow}
 use Rattle.rules.specs.Procedures.{larger}
 use Rattle.processor.proofs.Tests.{below, same, and-left, and-right}
-use Rattle.page.specs.Page.{vectorByte, putBit, byteAt, setByte, isSet, put, putVector, setVector, highest}
+use Rattle.page.specs.Page.{byteAt}
+use Rattle.stores.specs.Stores.{setByte}
+use Rattle.registers.specs.Vectors.{vectorByte, putBit, isSet, put, putVector, setVector, highest}
 use Rattle.registers.proofs.Top.{highest-top, top-ext, top-raise, top-fewer, top-below}
 
 -- one bit of a byte changed, read at each bit: on and off, computed at every byte and pair of bits

@@ -9,7 +9,7 @@ use lib.Dec.{eqb, ltb}
 use borrow.Author.Tests.{eqb-true, eqb-false, ltb-true, ltb-false}
 use Rattle.processor.specs.Logic.{if_then_else_}
 use Rattle.rules.specs.Procedures.{larger}
-use Rattle.page.specs.Page.{isSet, put, highestBelow}
+use Rattle.registers.specs.Vectors.{isSet, put, highestBelow}
 
 -- the highest set place below n, 0 where there is none
 abbrev pub top : (ℕ → Bool) → ℕ → ℕ

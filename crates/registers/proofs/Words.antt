@@ -9,7 +9,8 @@ use lib.Dec.{eqb, eqb→eq}
 use lib.Pow.{pow-pos}
 use Rattle.processor.specs.Logic.{bit}
 use Rattle.processor.proofs.Tests.{below}
-use Rattle.page.specs.Page.{byteAt, wordAt, isSet}
+use Rattle.page.specs.Page.{byteAt, wordAt}
+use Rattle.registers.specs.Vectors.{isSet}
 
 -- a bit of the low byte, whatever lies above it
 halves : (i : ℕ) → i < 8 → 256 ≡ 2 ^ i * (2 * 2 ^ (7 - i))

@@ -1,7 +1,7 @@
 // The 256-bit registers of a page.
 ghost use mathlib.Core.Path.{_≡_};
 ghost use Prim.Native.Nat.{_%_};
-ghost use Rattle.page.specs.Page.{vectorByte, putBit, putVector, highestBit, highest};
+ghost use Rattle.registers.specs.Vectors.{vectorByte, putBit, putVector, highestBit, highest};
 use page::bytes::word_at;
 
 fn vector_byte(vector: u8) -> usize

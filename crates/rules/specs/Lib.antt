@@ -1,4 +1,2 @@
-pub mod Events
-pub mod Answers
 pub mod Entry
 pub mod Procedures

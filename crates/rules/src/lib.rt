@@ -1,6 +1,4 @@
-// The events and answers of document 01, and what is decided from numbers alone: bounds, modes, the entry checks, priority classes.
+// What is decided from numbers alone: the entry checks, priority classes, and what the five procedures and the boundary ask.
 // Nothing here holds a page.
-pub mod answer;
 pub mod entry;
-pub mod event;
 pub mod procedures;

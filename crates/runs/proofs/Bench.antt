@@ -1,12 +1,14 @@
 -- Every bench case holds of the definitions: one claim, computed. Assumes nothing.
 use lib.Dec.{T}
 use Rattle.processor.specs.Controls.{eoiExitWord}
-use Rattle.rules.specs.Events.{valueInBounds, eventInBounds, rootOnly, allowed}
+use Rattle.events.specs.Events.{valueInBounds, eventInBounds, rootOnly, allowed}
 use Rattle.rules.specs.Entry.{failingCheck}
 use Rattle.accesses.specs.Memory.{openOffset, memoryAccess, readQualification, writeFollowing}
-use Rattle.accesses.specs.Cr8Msr.{cr8Access, wrmsrFollowing, wrmsr}
+use Rattle.instructions.specs.Cr8Msr.{cr8Access, wrmsrFollowing, wrmsr}
 use Rattle.rules.specs.Procedures.{ppr, larger}
-use Rattle.page.specs.Page.{halfAt, wordAt, longAt, readAt, setHalf, setWord, setLong, storeAt, isSet, putVector, highestBelow, highest}
+use Rattle.page.specs.Page.{halfAt, wordAt, longAt, readAt}
+use Rattle.stores.specs.Stores.{setHalf, setWord, setLong, storeAt}
+use Rattle.registers.specs.Vectors.{isSet, putVector, highestBelow, highest}
 use Rattle.runs.specs.Procedures.{pprVirtualization, evaluation, evaluatedQuiet, tprVirtualization, retiredPage, retiredRecord, eoiEnd, eoiVirtualization, requestedPage, requestedRecord, selfIpiVirtualization}
 use Rattle.runs.specs.Entry.{entered, entry, request}
 use Rattle.runs.specs.Memory.{readBy, memoryRead, clearThree, followBy, written, writeBy, memoryWrite}

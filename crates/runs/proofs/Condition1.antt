@@ -8,18 +8,18 @@ use lib.Dec.{eqb, ltb}
 use Rattle.processor.specs.Controls.{virtualDelivery, eoiExit, interruptWindowExiting}
 use Rattle.processor.specs.declared.controls.Controls.{Controls}
 use Rattle.processor.specs.declared.controls.Record.{Record}
-use Rattle.rules.specs.Answers.{Numbers, numbers}
+use Rattle.events.specs.Answers.{Numbers, numbers}
 use Rattle.rules.specs.Entry.{failingCheck, exitsAtEntry}
 use Rattle.rules.specs.Procedures.{belowThreshold}
-use Rattle.rules.specs.declared.event.Event.{Event}
-use Rattle.rules.specs.declared.event.Event.the-variants.{Entry, Request, MemoryRead, MemoryWrite, ToCr8, FromCr8, Rdmsr, Wrmsr, Boundary}
-use Rattle.accesses.specs.Cr8Msr.{rdmsrRedirected}
+use Rattle.events.specs.declared.event.Event.{Event}
+use Rattle.events.specs.declared.event.Event.the-variants.{Entry, Request, MemoryRead, MemoryWrite, ToCr8, FromCr8, Rdmsr, Wrmsr, Boundary}
+use Rattle.instructions.specs.Cr8Msr.{rdmsrRedirected}
 use Rattle.accesses.specs.declared.memory.Access.{Access}
 use Rattle.accesses.specs.declared.memory.Access.the-variants.{Passthrough, Exit, Redirected}
 use Rattle.accesses.specs.declared.memory.Following.{Following}
 use Rattle.accesses.specs.declared.memory.Following.the-variants.{Tpr, Eoi, SelfIpi, IcrHigh, ApicWrite}
-use Rattle.accesses.specs.declared.msr.MsrWrite.{MsrWrite}
-use Rattle.accesses.specs.declared.msr.MsrWrite.the-variants.{Passthrough as MsrPassthrough, Fault, Tpr as MsrTpr, Eoi as MsrEoi, SelfIpi as MsrSelfIpi, ApicWrite as MsrApicWrite}
+use Rattle.instructions.specs.declared.msr.MsrWrite.{MsrWrite}
+use Rattle.instructions.specs.declared.msr.MsrWrite.the-variants.{Passthrough as MsrPassthrough, Fault, Tpr as MsrTpr, Eoi as MsrEoi, SelfIpi as MsrSelfIpi, ApicWrite as MsrApicWrite}
 use Rattle.page.specs.Page.{vtpr, byteAt}
 use Rattle.runs.specs.After.{quiet}
 use Rattle.runs.specs.Procedures.{evaluatedQuiet, tprVirtualization, retiredRecord, eoiEnd, eoiVirtualization, selfIpiVirtualization}

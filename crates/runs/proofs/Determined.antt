@@ -2,10 +2,10 @@
 use Prim.Native.Nat.{ℕ}
 use mathlib.Core.Path.{_≡_, sym, _∙_, ap}
 use mathlib.Core.List.{List}
-use Rattle.rules.specs.declared.answer.Answer.{Answer}
-use Rattle.rules.specs.declared.answer.Outcome.{Outcome}
+use Rattle.events.specs.declared.answer.Answer.{Answer}
+use Rattle.events.specs.declared.answer.Outcome.{Outcome}
 use Rattle.processor.specs.declared.controls.Record.{Record}
-use Rattle.rules.proofs.Answers.{numbersOf-one-to-one}
+use Rattle.events.proofs.Answers.{numbersOf-one-to-one}
 use Rattle.runs.specs.After.{After, Leaves}
 
 outcome : Answer → Record → Outcome

@@ -10,9 +10,10 @@ use borrow.Author.Tests.{ltb-true}
 use Rattle.processor.specs.Logic.{allBelow}
 use Rattle.processor.specs.Controls.{interruptWindowExiting}
 use Rattle.rules.specs.Procedures.{class, larger}
-use Rattle.rules.specs.declared.event.Event.{Event}
+use Rattle.events.specs.declared.event.Event.{Event}
 use Rattle.processor.proofs.Tests.{below, right}
-use Rattle.page.specs.Page.{vppr, visr, virr, byteAt, isSet, highestBelow, highest, IsPage, put}
+use Rattle.page.specs.Page.{vppr, visr, virr, byteAt, IsPage}
+use Rattle.registers.specs.Vectors.{isSet, highestBelow, highest, put}
 use Rattle.registers.proofs.Top.{highest-top, top-ext, top-raise}
 use Rattle.registers.proofs.Registers.{highest-ext, highest-byte}
 use Rattle.runs.specs.After.{After}

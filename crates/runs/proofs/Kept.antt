@@ -10,7 +10,9 @@ use lib.ListN.{length, set, length-set}
 use lib.Seq.{getD-set-same, getD-set-other, set-out}
 use borrow.Author.Tests.{eqb-true, eqb-false, ltb-true, ltb-false, leb-true}
 use Rattle.processor.proofs.Tests.{left, right}
-use Rattle.page.specs.Page.{vppr, visr, virr, byteAt, setByte, setHalf, setWord, vectorByte, isSet, IsPage}
+use Rattle.page.specs.Page.{vppr, visr, virr, byteAt, IsPage}
+use Rattle.stores.specs.Stores.{setByte, setHalf, setWord}
+use Rattle.registers.specs.Vectors.{vectorByte, isSet}
 use Rattle.registers.proofs.Registers.{isSet-other, vector-within}
 
 -- q is a page with the request and service bits of p

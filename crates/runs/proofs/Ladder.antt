@@ -11,7 +11,7 @@ use borrow.Author.Tests.{eqb-true, eq-eqb, lt-ltb, le-ltb}
 use Rattle.processor.specs.Logic.{if_then_else_}
 use Rattle.rules.specs.Procedures.{class}
 use Rattle.registers.proofs.Top.{top, top-unique, top-none}
-use Rattle.page.specs.Page.{put}
+use Rattle.registers.specs.Vectors.{put}
 use Rattle.runs.specs.History.{member, rest}
 use Rattle.runs.specs.Condition3.{Rising, one, count}
 

@@ -10,23 +10,25 @@ use lib.ListN.{length, set}
 use lib.Seq.{getD-set-same, getD-set-other}
 use borrow.Author.Tests.{eqb-true, ltb-true, leb-true, ne-eqb}
 use Rattle.processor.specs.Logic.{if_then_else_}
-use Rattle.rules.specs.Answers.{Numbers, numbers}
+use Rattle.events.specs.Answers.{Numbers, numbers}
 use Rattle.processor.specs.Controls.{virtualizeX2apicMode, virtualDelivery, virtualizeApicAccesses, useTprShadow, interruptWindowExiting, flagsInBounds, withGuest, withControls}
-use Rattle.rules.specs.Events.{offsetInBounds, sizeInBounds, valueInBounds, eventInBounds, inBounds, rootOnly, allowed}
+use Rattle.events.specs.Events.{offsetInBounds, sizeInBounds, valueInBounds, eventInBounds, inBounds, rootOnly, allowed}
 use Rattle.rules.specs.Entry.{failingCheck, exitsAtEntry}
 use Rattle.accesses.specs.Memory.{openOffset, pastRegister, accessExits, memoryAccess, readQualification, writeQualification, selfIpi, inRegister, writeFollowing}
-use Rattle.accesses.specs.Cr8Msr.{toCr8, fromCr8, toCr8Qualification, fromCr8Qualification, rdmsrRedirected, msrOffset, wrmsrHandled, wrmsrFaults, wrmsrFollowing, wrmsr}
+use Rattle.instructions.specs.Cr8Msr.{toCr8, fromCr8, toCr8Qualification, fromCr8Qualification, rdmsrRedirected, msrOffset, wrmsrHandled, wrmsrFaults, wrmsrFollowing, wrmsr}
 use Rattle.rules.specs.Procedures.{openBoundary}
 use Rattle.processor.proofs.Tests.{left, right, none-left, none-right}
 use Rattle.processor.specs.declared.controls.Controls.{Controls}
 use Rattle.processor.specs.declared.controls.Record.{Record}
-use Rattle.rules.specs.declared.event.Event.{Event}
-use Rattle.rules.specs.declared.event.Event.the-variants.{Entry, Request, MemoryRead, MemoryWrite, ToCr8, FromCr8, Rdmsr, Wrmsr, Boundary}
+use Rattle.events.specs.declared.event.Event.{Event}
+use Rattle.events.specs.declared.event.Event.the-variants.{Entry, Request, MemoryRead, MemoryWrite, ToCr8, FromCr8, Rdmsr, Wrmsr, Boundary}
 use Rattle.accesses.specs.declared.memory.Access.{Access}
 use Rattle.accesses.specs.declared.memory.Access.the-variants.{Passthrough, Exit, Redirected}
 use Rattle.accesses.specs.declared.memory.Following.the-variants.{Tpr, Eoi, SelfIpi, IcrHigh, ApicWrite}
-use Rattle.accesses.specs.declared.msr.MsrWrite.the-variants.{Passthrough as MsrPassthrough, Fault, Tpr as MsrTpr, Eoi as MsrEoi, SelfIpi as MsrSelfIpi, ApicWrite as MsrApicWrite}
-use Rattle.page.specs.Page.{virr, highest, vtpr, veoi, vicrLo, vicrHi, byteAt, wordAt, longAt, readAt, setHalf, setWord, setLong, storeAt, IsPage}
+use Rattle.instructions.specs.declared.msr.MsrWrite.the-variants.{Passthrough as MsrPassthrough, Fault, Tpr as MsrTpr, Eoi as MsrEoi, SelfIpi as MsrSelfIpi, ApicWrite as MsrApicWrite}
+use Rattle.page.specs.Page.{virr, vtpr, veoi, vicrLo, vicrHi, byteAt, wordAt, longAt, readAt, IsPage}
+use Rattle.stores.specs.Stores.{setHalf, setWord, setLong, storeAt}
+use Rattle.registers.specs.Vectors.{highest}
 use Rattle.runs.specs.After.{refused, redirected, passthrough, exit, quiet}
 use Rattle.runs.specs.Entry.{entry, entered, request}
 use Rattle.runs.specs.Memory.{readBy, memoryRead, clearThree, followBy, written, writeBy, memoryWrite}

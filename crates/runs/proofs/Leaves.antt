@@ -8,14 +8,16 @@ use mathlib.Core.List.{List}
 use lib.Dec.{eqb, leb, lit≤}
 use borrow.Author.Tests.{leb-true, le-ltb}
 use Rattle.processor.specs.Logic.{if_then_else_}
-use Rattle.rules.specs.Answers.{Numbers, numbers}
+use Rattle.events.specs.Answers.{Numbers, numbers}
 use Rattle.processor.specs.Controls.{virtualDelivery, eoiExit, interruptWindowExiting, withGuest, withRvi, withSvi, withRecognised, withControls}
 use Rattle.rules.specs.Procedures.{class, lowCleared, ppr, belowThreshold, evaluated, larger}
 use Rattle.processor.specs.declared.controls.Controls.{Controls}
 use Rattle.processor.specs.declared.controls.Record.{Record}
-use Rattle.rules.specs.declared.event.Event.{Event}
+use Rattle.events.specs.declared.event.Event.{Event}
 use Rattle.processor.proofs.Tests.{never}
-use Rattle.page.specs.Page.{vtpr, vppr, visr, virr, byteAt, isSet, setWord, setVector, highest, IsPage, put}
+use Rattle.page.specs.Page.{vtpr, vppr, visr, virr, byteAt, IsPage}
+use Rattle.stores.specs.Stores.{setWord}
+use Rattle.registers.specs.Vectors.{isSet, setVector, highest, put}
 use Rattle.registers.proofs.Registers.{highest-ext, highest-fewer, highest-byte}
 use Rattle.runs.specs.After.{After, exit, quiet}
 use Rattle.runs.specs.Procedures.{pprVirtualization, evaluation, evaluatedQuiet, tprVirtualization, retiredPage, retiredRecord, eoiEnd, eoiVirtualization, requestedPage, requestedRecord, selfIpiVirtualization}

@@ -8,7 +8,8 @@ use lib.Dec.{lit≤}
 use mathlib.Core.List.{List}
 use lib.ListN.{length}
 use lib.Seq.{getD-set-other}
-use Rattle.page.specs.Page.{vppr, visr, virr, byteAt, vectorByte, isSet, putVector, IsPage, put}
+use Rattle.page.specs.Page.{vppr, visr, virr, byteAt, IsPage}
+use Rattle.registers.specs.Vectors.{vectorByte, isSet, putVector, put}
 use Rattle.registers.proofs.Registers.{putBit-byte, vector-within, isSet-put, isSet-other}
 use Rattle.runs.proofs.Kept.{page-set}
 

@@ -2,11 +2,13 @@
 use mathlib.Core.Path.{_≡_, refl, sym}
 use mathlib.Core.Bool.{true≢false}
 use Rattle.processor.specs.Controls.{eoiExitWord}
-use Rattle.rules.specs.Events.{valueInBounds, eventInBounds, rootOnly, allowed}
+use Rattle.events.specs.Events.{valueInBounds, eventInBounds, rootOnly, allowed}
 use Rattle.rules.specs.Entry.{failingCheck}
 use Rattle.accesses.specs.Memory.{openOffset, memoryAccess, writeFollowing}
 use Rattle.rules.specs.Procedures.{ppr, larger}
-use Rattle.page.specs.Page.{wordAt, setWord, storeAt, isSet, putVector, highestBelow, highest}
+use Rattle.page.specs.Page.{wordAt}
+use Rattle.stores.specs.Stores.{setWord, storeAt}
+use Rattle.registers.specs.Vectors.{isSet, putVector, highestBelow, highest}
 use Rattle.runs.specs.Procedures.{pprVirtualization, evaluation, evaluatedQuiet, requestedPage, requestedRecord, selfIpiVirtualization}
 use Rattle.runs.specs.Entry.{entered, entry, request}
 use Rattle.runs.specs.Memory.{followBy, written, writeBy, memoryWrite}

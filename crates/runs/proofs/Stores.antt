@@ -9,11 +9,12 @@ use lib.Dec.{T, eqb, ltb, lit<}
 use borrow.Author.Tests.{eqb-true, ltb-false, lt-ltb}
 use Rattle.processor.specs.Logic.{if_then_else_, allBelow}
 use Rattle.processor.specs.Controls.{apicRegisterVirtualization, virtualDelivery}
-use Rattle.rules.specs.Events.{sizeInBounds}
+use Rattle.events.specs.Events.{sizeInBounds}
 use Rattle.accesses.specs.Memory.{openTpr, openDelivery, openWrite, openOffset, pastRegister}
 use Rattle.processor.specs.declared.controls.Controls.{Controls}
 use Rattle.processor.proofs.Tests.{below}
-use Rattle.page.specs.Page.{storeAt, IsPage}
+use Rattle.page.specs.Page.{IsPage}
+use Rattle.stores.specs.Stores.{storeAt}
 use Rattle.runs.proofs.Kept.{Kept, free, kept-refl, kept-set, kept-half, kept-word}
 
 -- open to a write in some setting

@@ -8,8 +8,9 @@ use mathlib.Core.List.{List, [], _∷_}
 use lib.Dec.{eqb}
 use Rattle.processor.specs.Logic.{if_then_else_}
 use Rattle.rules.specs.Procedures.{class}
-use Rattle.rules.specs.declared.event.Event.{Event}
-use Rattle.page.specs.Page.{visr, isSet, put}
+use Rattle.events.specs.declared.event.Event.{Event}
+use Rattle.page.specs.Page.{visr}
+use Rattle.registers.specs.Vectors.{isSet, put}
 use Rattle.runs.specs.Moves.{Move, stays, raises, delivers, retires, moveOf, Moved, Deliverable}
 use Rattle.runs.specs.Run.{Held, start, stepOf, after}
 use Rattle.runs.specs.History.{AllOn, serving}

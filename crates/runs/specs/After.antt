@@ -3,10 +3,10 @@ use Prim.Native.Nat.{ℕ}
 use mathlib.Core.Path.{_≡_}
 use mathlib.Core.Bool.{false}
 use mathlib.Core.List.{List}
-use Rattle.rules.specs.Answers.{Numbers, numbers, numbersOf}
+use Rattle.events.specs.Answers.{Numbers, numbers, numbersOf}
 use Rattle.processor.specs.Controls.{withGuest, withRecognised}
 use Rattle.processor.specs.declared.controls.Record.{Record}
-use Rattle.rules.specs.declared.answer.Outcome.{Outcome}
+use Rattle.events.specs.declared.answer.Outcome.{Outcome}
 
 pub record After : Type 0 where
   pub answer : Numbers

@@ -3,12 +3,13 @@ use Prim.Native.Nat.{ℕ}
 use mathlib.Core.Bool.{Bool, true, false, _&&_, Bool·beq}
 use mathlib.Core.List.{List, [], _∷_, _++_}
 use lib.Dec.{eqb}
-use Rattle.rules.specs.Answers.{Numbers, numbers}
+use Rattle.events.specs.Answers.{Numbers, numbers}
 use Rattle.processor.specs.declared.controls.Controls.{Controls}
 use Rattle.processor.specs.declared.controls.Record.{Record}
-use Rattle.rules.specs.declared.event.Event.{Event}
-use Rattle.rules.specs.declared.event.Event.the-variants.{Entry, Request, MemoryRead, MemoryWrite, ToCr8, Boundary}
-use Rattle.page.specs.Page.{vtpr, setByte, wordAt}
+use Rattle.events.specs.declared.event.Event.{Event}
+use Rattle.events.specs.declared.event.Event.the-variants.{Entry, Request, MemoryRead, MemoryWrite, ToCr8, Boundary}
+use Rattle.page.specs.Page.{vtpr, wordAt}
+use Rattle.stores.specs.Stores.{setByte}
 use Rattle.runs.specs.Procedures.{pprVirtualization}
 use Rattle.runs.specs.Run.{Held, zeroPage, start, after, answers}
 

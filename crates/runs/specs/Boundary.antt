@@ -6,7 +6,9 @@ use Rattle.processor.specs.Logic.{if_then_else_}
 use Rattle.processor.specs.Controls.{interruptWindowExiting, withRvi, withSvi, withRecognised}
 use Rattle.rules.specs.Procedures.{lowCleared, openBoundary}
 use Rattle.processor.specs.declared.controls.Record.{Record}
-use Rattle.page.specs.Page.{vppr, visr, virr, setWord, setVector, clearVector, highest}
+use Rattle.page.specs.Page.{vppr, visr, virr}
+use Rattle.stores.specs.Stores.{setWord}
+use Rattle.registers.specs.Vectors.{setVector, clearVector, highest}
 use Rattle.runs.specs.After.{After, exit, delivered, quiet}
 
 -- v = RVI; set VISR v; VPPR = v with low four bits cleared; clear VIRR v;

@@ -7,11 +7,11 @@ use mathlib.Core.List.{List}
 use lib.Dec.{eqb, ltb}
 use lib.ListN.{length}
 use Rattle.processor.specs.declared.controls.Record.{Record}
-use Rattle.rules.specs.Answers.{Numbers, numbers}
-use Rattle.rules.specs.Events.{inBounds, allowed}
+use Rattle.events.specs.Answers.{Numbers, numbers}
+use Rattle.events.specs.Events.{inBounds, allowed}
 use Rattle.rules.specs.Entry.{failingCheck}
-use Rattle.rules.specs.declared.event.Event.{Event}
-use Rattle.rules.specs.declared.event.Event.the-variants.{Entry, Request, MemoryRead, MemoryWrite, ToCr8, FromCr8, Rdmsr, Wrmsr, Boundary}
+use Rattle.events.specs.declared.event.Event.{Event}
+use Rattle.events.specs.declared.event.Event.the-variants.{Entry, Request, MemoryRead, MemoryWrite, ToCr8, FromCr8, Rdmsr, Wrmsr, Boundary}
 use Rattle.runs.specs.After.{After}
 
 -- the entry check that fails, 0 where none does or the event is no entry

@@ -7,8 +7,9 @@ use lib.Dec.{ltb}
 use Rattle.processor.specs.Logic.{if_then_else_}
 use Rattle.processor.specs.Controls.{interruptWindowExiting}
 use Rattle.rules.specs.Procedures.{class}
-use Rattle.rules.specs.declared.event.Event.{Event}
-use Rattle.page.specs.Page.{vppr, visr, virr, byteAt, isSet, highest, put}
+use Rattle.events.specs.declared.event.Event.{Event}
+use Rattle.page.specs.Page.{vppr, visr, virr, byteAt}
+use Rattle.registers.specs.Vectors.{isSet, highest, put}
 use Rattle.runs.specs.Moves.{retires, moveOf, isDelivered}
 use Rattle.runs.specs.Run.{Held, stepOf}
 use Rattle.runs.specs.History.{member}

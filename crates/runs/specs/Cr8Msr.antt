@@ -3,13 +3,14 @@ use Prim.Native.Nat.{ℕ, _*_, _%_}
 use mathlib.Core.List.{List}
 use Rattle.processor.specs.Logic.{if_then_else_}
 use Rattle.rules.specs.Procedures.{class}
-use Rattle.accesses.specs.Cr8Msr.{toCr8, fromCr8, toCr8Qualification, fromCr8Qualification, rdmsrRedirected, msrOffset, wrmsr}
+use Rattle.instructions.specs.Cr8Msr.{toCr8, fromCr8, toCr8Qualification, fromCr8Qualification, rdmsrRedirected, msrOffset, wrmsr}
 use Rattle.processor.specs.declared.controls.Record.{Record}
 use Rattle.accesses.specs.declared.memory.Access.{Access}
 use Rattle.accesses.specs.declared.memory.Access.the-variants.{Passthrough, Exit, Redirected}
-use Rattle.accesses.specs.declared.msr.MsrWrite.{MsrWrite}
-use Rattle.accesses.specs.declared.msr.MsrWrite.the-variants.{Passthrough as MsrPassthrough, Fault, Tpr, Eoi, SelfIpi, ApicWrite}
-use Rattle.page.specs.Page.{vtpr, byteAt, longAt, setWord, setLong}
+use Rattle.instructions.specs.declared.msr.MsrWrite.{MsrWrite}
+use Rattle.instructions.specs.declared.msr.MsrWrite.the-variants.{Passthrough as MsrPassthrough, Fault, Tpr, Eoi, SelfIpi, ApicWrite}
+use Rattle.page.specs.Page.{vtpr, byteAt, longAt}
+use Rattle.stores.specs.Stores.{setWord, setLong}
 use Rattle.runs.specs.After.{After, redirected, passthrough, fault, exit}
 use Rattle.runs.specs.Procedures.{tprVirtualization, eoiVirtualization, selfIpiVirtualization}
 

@@ -8,7 +8,8 @@ use Rattle.accesses.specs.declared.memory.Access.{Access}
 use Rattle.accesses.specs.declared.memory.Access.the-variants.{Passthrough, Exit, Redirected}
 use Rattle.accesses.specs.declared.memory.Following.{Following}
 use Rattle.accesses.specs.declared.memory.Following.the-variants.{Tpr, Eoi, SelfIpi, IcrHigh, ApicWrite}
-use Rattle.page.specs.Page.{vtpr, veoi, vicrLo, vicrHi, byteAt, wordAt, readAt, setByte, setWord, storeAt}
+use Rattle.page.specs.Page.{vtpr, veoi, vicrLo, vicrHi, byteAt, wordAt, readAt}
+use Rattle.stores.specs.Stores.{setByte, setWord, storeAt}
 use Rattle.runs.specs.After.{After, redirected, passthrough, exit, quiet}
 use Rattle.runs.specs.Procedures.{tprVirtualization, eoiVirtualization, selfIpiVirtualization}
 

@@ -5,12 +5,13 @@ use mathlib.Core.Bool.{Bool, true, false, _&&_, _||_}
 use mathlib.Core.List.{List}
 use lib.Dec.{eqb}
 use Rattle.processor.specs.Logic.{if_then_else_}
-use Rattle.rules.specs.Answers.{Numbers}
+use Rattle.events.specs.Answers.{Numbers}
 use Rattle.rules.specs.Procedures.{larger}
 use Rattle.processor.specs.declared.controls.Record.{Record}
-use Rattle.rules.specs.declared.event.Event.{Event}
-use Rattle.rules.specs.declared.event.Event.the-variants.{Entry, Request, MemoryRead, MemoryWrite, ToCr8, FromCr8, Rdmsr, Wrmsr, Boundary}
-use Rattle.page.specs.Page.{visr, virr, isSet, put, highest}
+use Rattle.events.specs.declared.event.Event.{Event}
+use Rattle.events.specs.declared.event.Event.the-variants.{Entry, Request, MemoryRead, MemoryWrite, ToCr8, FromCr8, Rdmsr, Wrmsr, Boundary}
+use Rattle.page.specs.Page.{visr, virr}
+use Rattle.registers.specs.Vectors.{isSet, put, highest}
 use Rattle.runs.specs.After.{After}
 
 -- nothing; raise one vector; deliver RVI; retire SVI

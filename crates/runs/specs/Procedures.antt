@@ -5,7 +5,9 @@ use Rattle.processor.specs.Logic.{if_then_else_}
 use Rattle.processor.specs.Controls.{virtualDelivery, eoiExit, withRvi, withSvi, withRecognised}
 use Rattle.rules.specs.Procedures.{ppr, belowThreshold, evaluated, larger}
 use Rattle.processor.specs.declared.controls.Record.{Record}
-use Rattle.page.specs.Page.{vtpr, vppr, visr, virr, byteAt, setWord, setVector, clearVector, highest}
+use Rattle.page.specs.Page.{vtpr, vppr, visr, virr, byteAt}
+use Rattle.stores.specs.Stores.{setWord}
+use Rattle.registers.specs.Vectors.{setVector, clearVector, highest}
 use Rattle.runs.specs.After.{After, exit, quiet}
 
 -- PPR virtualization: if VTPR's class ≥ SVI's class, VPPR (32 bits) is VTPR's low byte, else SVI with its low four bits cleared.

@@ -4,8 +4,8 @@ use mathlib.Core.List.{List, [], _∷_}
 use lib.ListN.{replicate}
 use Rattle.processor.specs.Controls.{fresh}
 use Rattle.processor.specs.declared.controls.Record.{Record}
-use Rattle.rules.specs.Answers.{Numbers}
-use Rattle.rules.specs.declared.event.Event.{Event}
+use Rattle.events.specs.Answers.{Numbers}
+use Rattle.events.specs.declared.event.Event.{Event}
 use Rattle.runs.specs.After.{After}
 use Rattle.runs.specs.Step.{step}
 

@@ -5,10 +5,10 @@ use mathlib.Core.List.{List}
 use lib.Dec.{eqb}
 use lib.ListN.{length}
 use Rattle.processor.specs.Logic.{if_then_else_}
-use Rattle.rules.specs.Events.{inBounds, allowed}
+use Rattle.events.specs.Events.{inBounds, allowed}
 use Rattle.processor.specs.declared.controls.Record.{Record}
-use Rattle.rules.specs.declared.event.Event.{Event}
-use Rattle.rules.specs.declared.event.Event.the-variants.{Entry, Request, MemoryRead, MemoryWrite, ToCr8, FromCr8, Rdmsr, Wrmsr, Boundary}
+use Rattle.events.specs.declared.event.Event.{Event}
+use Rattle.events.specs.declared.event.Event.the-variants.{Entry, Request, MemoryRead, MemoryWrite, ToCr8, FromCr8, Rdmsr, Wrmsr, Boundary}
 use Rattle.runs.specs.After.{After, refused}
 use Rattle.runs.specs.Entry.{entry, request}
 use Rattle.runs.specs.Memory.{memoryRead, memoryWrite}

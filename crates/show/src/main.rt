@@ -3,11 +3,11 @@ use crate::words::say;
 use crate::words::say_answer;
 use crate::words::say_requests;
 use crate::words::say_status;
+use events::event::Event;
 use model::fresh_record;
 use model::step;
 use processor::controls::Controls;
 use processor::controls::Record;
-use rules::event::Event;
 
 mod words;
 

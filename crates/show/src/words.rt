@@ -1,8 +1,8 @@
 // What an event came to, in words and numbers: values in hex, answer and exit numbers in decimal.
+use events::answer::Answer;
 use page::bytes::byte_at;
 use page::bytes::word_at;
 use processor::controls::Record;
-use rules::answer::Answer;
 
 const OUT: i32 = 1;
 

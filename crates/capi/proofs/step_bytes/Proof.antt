@@ -7,8 +7,8 @@ use Rattle.capi.proofs.step_bytes.Statement.{statement}
 use Rattle.capi.proofs.step_bytes.Tie as tie
 use Rattle.capi.proofs.step_bytes.Reads as reads
 use Rattle.capi.proofs.step_bytes.Lts as lts
-use Rattle.capi.proofs.events.event_of.Reads as event-of-reads
-use Rattle.capi.proofs.events.event_readable.Reads as event-readable-reads
+use Rattle.capi.proofs.event_bytes.event_of.Reads as event-of-reads
+use Rattle.capi.proofs.event_bytes.event_readable.Reads as event-readable-reads
 use Rattle.capi.proofs.numbers.numbers_of.Reads as numbers-of-reads
 use Rattle.capi.proofs.numbers.refused.Reads as refused-reads
 use Rattle.capi.proofs.records.keep.Reads as keep-reads

@@ -3,7 +3,7 @@ use Prim.Native.Nat.{ℕ}
 use mathlib.Core.Path.{_≡_}
 use mathlib.Core.List.{List}
 use Rattle.processor.specs.declared.controls.Controls.{Controls}
-use Rattle.page.specs.Page.{setWord, setLong}
+use Rattle.stores.specs.Stores.{setWord, setLong}
 use Rattle.capi.specs.Records.{controlsBytes}
 use borrow.Author.Needs.{needs}
 use Rattle.capi.proofs.controls.controls_bytes.Statement.{statement}

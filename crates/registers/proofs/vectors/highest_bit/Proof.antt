@@ -3,7 +3,7 @@ use Prim.Native.Nat.{_≤_}
 use native.Mathlib.Omega.{arith}
 use mathlib.Core.Path.{_≡_, refl}
 use lib.Dec.{lit≤}
-use Rattle.page.specs.Page.{highestBit}
+use Rattle.registers.specs.Vectors.{highestBit}
 use Rattle.registers.proofs.Highest.{bit-found, bit-next, bit-over}
 use Rattle.registers.proofs.vectors.highest_bit.Statement.{statement}
 use Rattle.registers.proofs.vectors.highest_bit.Tie as tie

@@ -4,7 +4,7 @@ use Prim.Native.Nat.{ℕ, _*_, _≤_}
 use native.Mathlib.Omega.{arith}
 use mathlib.Core.Path.{_≡_, _∙_, ap, subst, sym}
 use lib.Dec.{lit≤}
-use Rattle.page.specs.Page.{isSet, highestBit, highest}
+use Rattle.registers.specs.Vectors.{isSet, highestBit, highest}
 use Rattle.registers.proofs.Top.{top}
 use Rattle.registers.proofs.Highest.{bit-most, word-found, word-next, words-all, words-over}
 use Rattle.registers.proofs.vectors.highest_vector.Statement.{statement}

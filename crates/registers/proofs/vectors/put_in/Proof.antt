@@ -2,7 +2,7 @@
 use native.Mathlib.Nat.{zero-add}
 use mathlib.Core.Path.{sym}
 use lib.Seq.{set-out}
-use Rattle.page.specs.Page.{putVector}
+use Rattle.registers.specs.Vectors.{putVector}
 use borrow.Author.Needs.{needs}
 use Rattle.registers.proofs.vectors.put_in.Statement.{statement}
 use Rattle.registers.proofs.vectors.put_in.Tie as tie

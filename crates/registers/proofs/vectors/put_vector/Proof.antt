@@ -4,7 +4,7 @@ use native.Mathlib.Nat.{zero-add}
 use native.Mathlib.Omega.{arith}
 use mathlib.Core.Path.{sym}
 use lib.Seq.{set-out}
-use Rattle.page.specs.Page.{vectorByte, putBit, putVector}
+use Rattle.registers.specs.Vectors.{vectorByte, putBit, putVector}
 use Rattle.registers.proofs.Part.{changed-part}
 use borrow.Author.Needs.{needs}
 use Rattle.registers.proofs.vectors.put_vector.Statement.{statement}

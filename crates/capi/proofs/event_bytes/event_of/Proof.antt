@@ -1,0 +1,107 @@
+-- `capi::event_bytes::event_of` meets its contract: code and definition take the same cases. Assumes nothing.
+use borrow.Author.Tests.{ne-eqb}
+use Rattle.capi.specs.Events.{eventOf}
+use Rattle.capi.proofs.event_bytes.event_of.Statement.{statement}
+use Rattle.capi.proofs.event_bytes.event_of.Tie as tie
+
+byte-at-requires : tie.Need-byte-at-requires
+byte-at-requires c κs = tt
+
+controls-of-requires : tie.Need-controls-of-requires
+controls-of-requires c κs = tt
+
+memory-read-of-requires : tie.Need-memory-read-of-requires
+memory-read-of-requires c κs = tt
+
+memory-write-of-requires : tie.Need-memory-write-of-requires
+memory-write-of-requires c κs = tt
+
+to-cr8-of-requires : tie.Need-to-cr8-of-requires
+to-cr8-of-requires c κs = tt
+
+byte-at-requires-2 : tie.Need-byte-at-requires-2
+byte-at-requires-2 c κs = tt
+
+word-at-requires : tie.Need-word-at-requires
+word-at-requires c κs = tt
+
+wrmsr-of-requires : tie.Need-wrmsr-of-requires
+wrmsr-of-requires c κs = tt
+
+boundary-of-requires : tie.Need-boundary-of-requires
+boundary-of-requires c κs = tt
+
+request-of-requires : tie.Need-request-of-requires
+request-of-requires c κs = tt
+
+returns : tie.Need-returns
+unfolding eventOf
+returns c = simp (← (c .before .before .byte-at .ensures), c .before .match .keys1, ← (c .controls-of .ensures))
+
+returns-2 : tie.Need-returns-2
+unfolding eventOf
+returns-2 c = simp (← (c .before .before .byte-at .ensures), c .before .match .keys2, ← (c .memory-read-of .ensures))
+
+returns-3 : tie.Need-returns-3
+unfolding eventOf
+returns-3 c = simp (← (c .before .before .byte-at .ensures), c .before .match .keys3, ← (c .memory-write-of .ensures))
+
+returns-4 : tie.Need-returns-4
+unfolding eventOf
+returns-4 c = simp (← (c .before .before .byte-at .ensures), c .before .match .keys4, ← (c .to-cr8-of .ensures))
+
+returns-5 : tie.Need-returns-5
+unfolding eventOf
+returns-5 c = simp (← (c .before .before .byte-at .ensures), c .before .match .keys5, ← (c .byte-at2 .ensures))
+
+returns-6 : tie.Need-returns-6
+unfolding eventOf
+returns-6 c = simp (← (c .before .before .byte-at .ensures), c .before .match .keys6, ← (c .word-at .ensures))
+
+returns-7 : tie.Need-returns-7
+unfolding eventOf
+returns-7 c = simp (← (c .before .before .byte-at .ensures), c .before .match .keys7, ← (c .wrmsr-of .ensures))
+
+returns-8 : tie.Need-returns-8
+unfolding eventOf
+returns-8 c = simp (← (c .before .before .byte-at .ensures), c .before .match .keys8, ← (c .boundary-of .ensures))
+
+returns-9 : tie.Need-returns-9
+unfolding eventOf
+returns-9 c =
+    simp (
+      ← (c .before .before .byte-at .ensures),
+      ne-eqb _ _ (c .before .match .rest .0 .0 .0 .0 .0 .0 .0 .1),
+      ne-eqb _ _ (c .before .match .rest .0 .0 .0 .0 .0 .0 .1),
+      ne-eqb _ _ (c .before .match .rest .0 .0 .0 .0 .0 .1),
+      ne-eqb _ _ (c .before .match .rest .0 .0 .0 .0 .1),
+      ne-eqb _ _ (c .before .match .rest .0 .0 .0 .1),
+      ne-eqb _ _ (c .before .match .rest .0 .0 .1),
+      ne-eqb _ _ (c .before .match .rest .0 .1),
+      ne-eqb _ _ (c .before .match .rest .1),
+      ← (c .request-of .ensures),
+    )
+
+pub event-of-spec : {M : Type 1} → statement M
+event-of-spec =
+    tie.close
+    (tie.spec
+    byte-at-requires
+    controls-of-requires
+    memory-read-of-requires
+    memory-write-of-requires
+    to-cr8-of-requires
+    byte-at-requires-2
+    word-at-requires
+    wrmsr-of-requires
+    boundary-of-requires
+    request-of-requires
+    returns
+    returns-2
+    returns-3
+    returns-4
+    returns-5
+    returns-6
+    returns-7
+    returns-8
+    returns-9)

@@ -1,0 +1,147 @@
+// The events, at widths that can hold what a recorder writes down, and their bounds.
+ghost use mathlib.Core.Path.{_≡_};
+ghost use Rattle.events.specs.Events.{sizeInBounds, valueInBounds, eventInBounds, inBounds, rootOnly, allowed};
+use processor::controls::Controls;
+use processor::controls::Record;
+
+pub enum Event {
+    Entry(Controls),
+    Request(u16),
+    MemoryRead {
+        offset: u16,
+        size: u8,
+        fetch: bool,
+        already: bool,
+    },
+    MemoryWrite {
+        offset: u16,
+        size: u8,
+        fetch: bool,
+        already: bool,
+        value: u64,
+    },
+    ToCr8 {
+        value: u8,
+        register: u8,
+    },
+    FromCr8(u8),
+    Rdmsr(u32),
+    Wrmsr {
+        index: u32,
+        value: u64,
+    },
+    Boundary {
+        interrupts: bool,
+        sti: bool,
+        mov_ss: bool,
+        activity: u8,
+    },
+}
+
+fn size_in_bounds(size: u8) -> bool
+    ensures { λ r. ⌜ r ≡ sizeInBounds size ⌝ }
+{
+    (size == 1) | (size == 2) | (size == 4) | (size == 8)
+}
+
+fn value_in_bounds(size: u8, value: u64) -> bool
+    ensures { λ r. ⌜ r ≡ valueInBounds size value ⌝ }
+{
+    if size == 1 {
+        return value < 0x100;
+    }
+    if size == 2 {
+        return value < 0x1_0000;
+    }
+    if size == 4 {
+        return value < 0x1_0000_0000;
+    }
+    size == 8
+}
+
+// Every field of the event is within its bounds.
+fn event_in_bounds(event: Event) -> bool
+    ensures { λ r. ⌜ r ≡ eventInBounds event ⌝ }
+{
+    match event {
+        Event::Entry(controls) => controls.flags_in_bounds(),
+        Event::Request(vector) => vector < 256,
+        Event::MemoryRead {
+            offset,
+            size,
+            fetch: _,
+            already: _,
+        } => (offset < 4096) & size_in_bounds(size),
+        Event::MemoryWrite {
+            offset,
+            size,
+            fetch,
+            already: _,
+            value,
+        } => (offset < 4096) & value_in_bounds(size, value) & !fetch,
+        Event::ToCr8 { value, register } => (value < 16) & (register < 16),
+        Event::FromCr8(register) => register < 16,
+        Event::Rdmsr(_) => true,
+        Event::Wrmsr { index: _, value: _ } => true,
+        Event::Boundary {
+            interrupts: _,
+            sti: _,
+            mov_ss: _,
+            activity,
+        } => activity < 4,
+    }
+}
+
+// No field of the record or of the event is outside its bounds: refusal 2 otherwise.
+pub fn in_bounds(record: Record, event: Event) -> bool
+    ensures { λ r. ⌜ r ≡ inBounds «record» event ⌝ }
+{
+    let controls = record.controls;
+    controls.flags_in_bounds() & event_in_bounds(event)
+}
+
+// Entry and request belong to root mode, every other event to guest mode.
+fn root_only(event: Event) -> bool
+    ensures { λ r. ⌜ r ≡ rootOnly event ⌝ }
+{
+    match event {
+        Event::Entry(_) => true,
+        Event::Request(_) => true,
+        Event::MemoryRead {
+            offset: _,
+            size: _,
+            fetch: _,
+            already: _,
+        } => false,
+        Event::MemoryWrite {
+            offset: _,
+            size: _,
+            fetch: _,
+            already: _,
+            value: _,
+        } => false,
+        Event::ToCr8 {
+            value: _,
+            register: _,
+        } => false,
+        Event::FromCr8(_) => false,
+        Event::Rdmsr(_) => false,
+        Event::Wrmsr { index: _, value: _ } => false,
+        Event::Boundary {
+            interrupts: _,
+            sti: _,
+            mov_ss: _,
+            activity: _,
+        } => false,
+    }
+}
+
+// The event is allowed in the record's mode: refusal 3 otherwise.
+pub fn is_allowed(record: Record, event: Event) -> bool
+    ensures { λ r. ⌜ r ≡ allowed «record» event ⌝ }
+{
+    if root_only(event) {
+        return !record.guest;
+    }
+    record.guest
+}

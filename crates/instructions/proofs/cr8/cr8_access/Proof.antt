@@ -1,0 +1,22 @@
+-- `instructions::cr8::cr8_access` meets its contract: code and definition take the same cases. Assumes nothing.
+use Rattle.instructions.specs.Cr8Msr.{cr8Access}
+use Rattle.instructions.proofs.cr8.cr8_access.Statement.{statement}
+use Rattle.instructions.proofs.cr8.cr8_access.Tie as tie
+
+returns : tie.Need-returns
+unfolding cr8Access
+returns c = simp (c .if1 .taken)
+
+use-tpr-shadow-requires : tie.Need-use-tpr-shadow-requires
+use-tpr-shadow-requires c κs = tt
+
+returns-2 : tie.Need-returns-2
+unfolding cr8Access
+returns-2 c = simp (c .before .before .if1 .left, ← (c .before .use-tpr-shadow .ensures), c .if2 .taken)
+
+returns-3 : tie.Need-returns-3
+unfolding cr8Access
+returns-3 c = simp (c .before .before .if1 .left, ← (c .before .use-tpr-shadow .ensures), c .if2 .left)
+
+pub cr8-access-spec : {M : Type 1} → statement M
+cr8-access-spec = tie.close (tie.spec returns use-tpr-shadow-requires returns-2 returns-3)

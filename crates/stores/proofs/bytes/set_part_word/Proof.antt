@@ -1,0 +1,63 @@
+-- `stores::bytes::set_part_word` meets its contract: code and definition take the same cases. Assumes nothing.
+use Rattle.stores.specs.Stores.{setWord}
+use borrow.Author.Needs.{needs}
+use Rattle.stores.proofs.bytes.set_part_word.Statement.{statement}
+use Rattle.stores.proofs.bytes.set_part_word.Tie as tie
+
+cast-set-byte : tie.Need-cast-set-byte
+cast-set-byte c = search needs
+
+set-byte-requires : tie.Need-set-byte-requires
+set-byte-requires c κs = tt
+
+add-set-byte : tie.Need-add-set-byte
+add-set-byte c = search needs
+
+cast-set-byte-2 : tie.Need-cast-set-byte-2
+cast-set-byte-2 c = search needs
+
+set-byte-requires-2 : tie.Need-set-byte-requires-2
+set-byte-requires-2 c κs = tt
+
+add-set-byte-2 : tie.Need-add-set-byte-2
+add-set-byte-2 c = search needs
+
+cast-set-byte-3 : tie.Need-cast-set-byte-3
+cast-set-byte-3 c = search needs
+
+set-byte-requires-3 : tie.Need-set-byte-requires-3
+set-byte-requires-3 c κs = tt
+
+add-set-byte-3 : tie.Need-add-set-byte-3
+add-set-byte-3 c = search needs
+
+cast-set-byte-4 : tie.Need-cast-set-byte-4
+cast-set-byte-4 c = search needs
+
+set-byte-requires-4 : tie.Need-set-byte-requires-4
+set-byte-requires-4 c κs = tt
+
+same-length : tie.Need-same-length
+same-length c = search needs
+
+returns : tie.Need-returns
+unfolding setWord
+returns c = simp ((c .before .before .set-byte4 .ensures), (c .before .before .before .before .before .before .set-byte3 .ensures), (c .before .before .before .before .before .before .before .before .before .before .set-byte2 .ensures), (c .before .before .before .before .before .before .before .before .before .before .before .before .before .before .set-byte .ensures))
+
+pub set-part-word-spec : {M : Type 1} → statement M
+set-part-word-spec =
+    tie.close
+    (tie.spec
+    cast-set-byte
+    set-byte-requires
+    add-set-byte
+    cast-set-byte-2
+    set-byte-requires-2
+    add-set-byte-2
+    cast-set-byte-3
+    set-byte-requires-3
+    add-set-byte-3
+    cast-set-byte-4
+    set-byte-requires-4
+    same-length
+    returns)
