@@ -33,6 +33,10 @@ replied b a =
       page = a .page;
     }
 
+-- the model's step on a record and an event that can be read
+unfoldable pub modelReply : List ℕ → List ℕ → List ℕ → Reply
+modelReply p b e = replied b (step p (recordOf b) (eventOf e))
+
 -- Refusal 1: the page isn't 4,096 bytes. 2: record or event aren't 48 bytes each, or cannot be read. The model's refusals follow.
 unfoldable pub ggStep : List ℕ → List ℕ → List ℕ → Reply
 ggStep p b e =
@@ -40,7 +44,7 @@ ggStep p b e =
     else if not (eqb (length b) 48) then refused 2 p b
     else if not (eqb (length e) 48) then refused 2 p b
     else if not (recordReadable b && eventReadable e) then refused 2 p b
-    else replied b (step p (recordOf b) (eventOf e))
+    else modelReply p b e
 
 -- The claim of gg_step: the answer, its two values, the record's bytes and the page are the definition's.
 pub record Replies (a : Reply) (n f s : ℕ) (b p : List ℕ) : Type 0 where

@@ -1,5 +1,5 @@
 // The boundary that a C simulator links: a lent page, a record and an event as bytes, an answer as numbers.
-ghost use Rattle.capi.specs.Calls.{Replies, FreshReplies, ggStep, ggFresh};
+ghost use Rattle.capi.specs.Calls.{Replies, FreshReplies, modelReply, ggStep, ggFresh};
 use event_bytes::event_of;
 use event_bytes::event_readable;
 use numbers::Numbers;
@@ -14,6 +14,18 @@ mod controls;
 mod event_bytes;
 mod numbers;
 mod records;
+
+// The model's step on a record and an event that can be read.
+fn model_reply(page: &mut [u8], record: &mut [u8], event: &[u8]) -> Numbers
+    ensures { λ r. ⌜ Replies (modelReply (now (page .entry)) (now («record» .entry)) (now (event .entry))) (r .answer) (r .first) (r .second) (now («record» .exit)) (now (page .exit)) ⌝ }
+{
+    let outcome = model::step(page, record_of(record), event_of(event));
+    let answer = outcome.answer;
+    let state = outcome.record;
+    let numbers = numbers_of(answer);
+    keep(record, numbers.answer, state);
+    numbers
+}
 
 // Refusals 1 and 2 of what cannot be read; the model decides on the rest.
 fn step_bytes(page: &mut [u8], record: &mut [u8], event: &[u8]) -> Numbers
@@ -32,12 +44,7 @@ fn step_bytes(page: &mut [u8], record: &mut [u8], event: &[u8]) -> Numbers
     if !readable {
         return refused(2);
     }
-    let outcome = model::step(page, record_of(record), event_of(event));
-    let answer = outcome.answer;
-    let state = outcome.record;
-    let numbers = numbers_of(answer);
-    keep(record, numbers.answer, state);
-    numbers
+    model_reply(page, record, event)
 }
 
 // One event on a page and a record: the answer's number comes back, its two values go to first and second.

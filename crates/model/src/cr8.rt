@@ -1,5 +1,4 @@
 // CR8 both ways.
-ghost use mathlib.Core.Path.{_≡_};
 ghost use Rattle.runs.specs.After.{Leaves};
 ghost use Rattle.runs.specs.Cr8Msr.{movToCr8, movFromCr8};
 use crate::outcome::exit;

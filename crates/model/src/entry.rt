@@ -1,5 +1,4 @@
 // Entry and request.
-ghost use mathlib.Core.Path.{_≡_};
 ghost use Rattle.runs.specs.After.{Leaves};
 ghost use Rattle.runs.specs.Entry.{entered as enteredOf, entry as entryOf, request as requestOf};
 use crate::outcome::exit;

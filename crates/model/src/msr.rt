@@ -1,5 +1,4 @@
 // RDMSR and WRMSR.
-ghost use mathlib.Core.Path.{_≡_};
 ghost use Rattle.runs.specs.After.{Leaves};
 ghost use Rattle.runs.specs.Cr8Msr.{readMsr, writeMsrBy, writeMsr};
 use crate::outcome::exit;

@@ -1,7 +1,7 @@
 // The five procedures.
 ghost use mathlib.Core.Path.{_≡_};
 ghost use Rattle.runs.specs.After.{Leaves};
-ghost use Rattle.runs.specs.Procedures.{pprVirtualization, evaluation as evaluationOf, evaluatedQuiet, tprVirtualization, retiredPage, retiredRecord, eoiEnd, eoiVirtualization, requestedPage, requestedRecord, selfIpiVirtualization};
+ghost use Rattle.runs.specs.Procedures.{pprVirtualization, evaluation as evaluationOf, evaluatedQuiet, tprVirtualization, eoiEnd, eoiVirtualization, requestedRecord, selfIpiVirtualization};
 use crate::outcome::exit;
 use crate::outcome::quiet;
 use events::answer::Outcome;

@@ -75,8 +75,11 @@ same-length-2 c = search needs
 returns-2 : tie.Need-returns-2
 unfolding carriedOut
 returns-2 c =
-    simp (c .before .before .before .before .before .event2 .given .1)
-    (rw (byte-vector _ _ (c .before .before .before .before .before .event2 .given .1) (c .before .before .before .before .before .before .before .before .pre)) at (c .before .before .request .ensures))
+    let at-request = c .before .before in
+    let at-event2 = at-request .before .before .before in
+    let at-pre = at-event2 .before .before .before in
+    simp (at-event2 .event2 .given .1)
+    (rw (byte-vector _ _ (at-event2 .event2 .given .1) (at-pre .pre)) at (at-request .request .ensures))
 
 same-length-3 : tie.Need-same-length-3
 same-length-3 c = search needs

@@ -34,14 +34,22 @@ unfolding step
 returns-3 c = simp (eq-eqb _ _ (c .before .before .before .before .before .if1 .left), ← (c .before .before .before .before .in-bounds .ensures), c .before .before .before .if2 .left, ← (c .before .before .is-allowed .ensures), c .before .if3 .taken) (c .refused3 .ensures _)
 
 carry-out-requires : tie.Need-carry-out-requires
-carry-out-requires c κs = event-within (c .before .before .before .before .before .before .before .args .«record») (c .before .before .before .before .before .before .before .args .event) (c .before .before .before .before .in-bounds .result) (c .before .before .before .before .in-bounds .ensures) (c .before .before .before .if2 .left)
+carry-out-requires c κs =
+    let at-if2 = c .before .before .before in
+    let start = at-if2 .before .before .before .before in
+    event-within (start .args .«record») (start .args .event) (at-if2 .before .in-bounds .result) (at-if2 .before .in-bounds .ensures) (at-if2 .if2 .left)
 
 same-length : tie.Need-same-length
 same-length c = search needs
 
 returns-4 : tie.Need-returns-4
 unfolding step
-returns-4 c = simp (eq-eqb _ _ (c .before .before .before .before .before .before .before .before .if1 .left), ← (c .before .before .before .before .before .before .before .in-bounds .ensures), c .before .before .before .before .before .before .if2 .left, ← (c .before .before .before .before .before .is-allowed .ensures), c .before .before .before .before .if3 .left) (c .before .before .carry-out .ensures)
+returns-4 c =
+    let at-carry-out = c .before .before in
+    let at-if3 = at-carry-out .before .before in
+    let at-if2 = at-if3 .before .before in
+    let at-if1 = at-if2 .before .before in
+    simp (eq-eqb _ _ (at-if1 .if1 .left), ← (at-if2 .before .in-bounds .ensures), at-if2 .if2 .left, ← (at-if3 .before .is-allowed .ensures), at-if3 .if3 .left) (at-carry-out .carry-out .ensures)
 
 pub step-spec : {M : Type 1} → statement M
 step-spec =

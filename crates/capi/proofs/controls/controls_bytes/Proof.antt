@@ -42,13 +42,19 @@ module _ (b₀ b₁ b₂ b₃ b₄ b₅ b₆ : List ℕ) (c : Controls) where
 
 returns : tie.Need-returns
 returns c =
+    let at-set-long5 = c .before .before in
+    let at-set-long4 = at-set-long5 .before .before .before .before in
+    let at-set-long3 = at-set-long4 .before .before .before .before in
+    let at-set-long2 = at-set-long3 .before .before .before .before in
+    let at-set-long = at-set-long2 .before .before .before .before in
+    let at-set-word = at-set-long .before .before .before .before in
     stored _ _ _ _ _ _ _ _
-    (c .before .before .before .before .before .before .before .before .before .before .before .before .before .before .before .before .before .before .before .before .before .before .set-word .ensures)
-    (c .before .before .before .before .before .before .before .before .before .before .before .before .before .before .before .before .before .before .set-long .ensures)
-    (c .before .before .before .before .before .before .before .before .before .before .before .before .before .before .set-long2 .ensures)
-    (c .before .before .before .before .before .before .before .before .before .before .set-long3 .ensures)
-    (c .before .before .before .before .before .before .set-long4 .ensures)
-    (c .before .before .set-long5 .ensures)
+    (at-set-word .set-word .ensures)
+    (at-set-long .set-long .ensures)
+    (at-set-long2 .set-long2 .ensures)
+    (at-set-long3 .set-long3 .ensures)
+    (at-set-long4 .set-long4 .ensures)
+    (at-set-long5 .set-long5 .ensures)
 
 pub controls-bytes-spec : {M : Type 1} → statement M
 controls-bytes-spec =

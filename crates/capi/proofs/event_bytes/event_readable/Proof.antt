@@ -2,15 +2,6 @@
 use Rattle.capi.specs.Events.{eventReadable}
 use Rattle.capi.proofs.event_bytes.event_readable.Statement.{statement}
 use Rattle.capi.proofs.event_bytes.event_readable.Tie as tie
-use Rattle.capi.proofs.event_bytes.event_readable.Reads as reads
-use Rattle.capi.proofs.event_bytes.event_readable.Lts as lts
-use Rattle.capi.proofs.event_bytes.flags_readable.Reads as flags-readable-reads
-use Rattle.capi.proofs.event_bytes.kind_readable.Reads as kind-readable-reads
-use Rattle.capi.proofs.event_bytes.number_readable.Reads as number-readable-reads
-use Rattle.capi.proofs.event_bytes.value_readable.Reads as value-readable-reads
-use Rattle.page.proofs.bytes.byte_at.Reads as byte-at-reads
-use Rattle.page.proofs.bytes.long_at.Reads as long-at-reads
-use Rattle.page.proofs.bytes.word_at.Reads as word-at-reads
 
 byte-at-requires : tie.Need-byte-at-requires
 byte-at-requires c κs = tt
@@ -38,7 +29,11 @@ value-readable-requires c κs = tt
 
 returns : tie.Need-returns
 unfolding eventReadable
-returns c = simp (← (c .before .before .before .before .before .before .before .byte-at .ensures), ← (c .before .before .before .before .before .before .byte-at2 .ensures), ← (c .before .before .before .before .before .word-at .ensures), ← (c .before .before .before .before .long-at .ensures), ← (c .before .before .before .kind-readable .ensures), ← (c .before .before .flags-readable .ensures), ← (c .before .number-readable .ensures), ← (c .value-readable .ensures))
+returns c =
+    let at-flags-readable = c .before .before in
+    let at-long-at = at-flags-readable .before .before in
+    let at-byte-at2 = at-long-at .before .before in
+    simp (← (at-byte-at2 .before .byte-at .ensures), ← (at-byte-at2 .byte-at2 .ensures), ← (at-long-at .before .word-at .ensures), ← (at-long-at .long-at .ensures), ← (at-flags-readable .before .kind-readable .ensures), ← (at-flags-readable .flags-readable .ensures), ← (c .before .number-readable .ensures), ← (c .value-readable .ensures))
 
 pub event-readable-spec : {M : Type 1} → statement M
 event-readable-spec =

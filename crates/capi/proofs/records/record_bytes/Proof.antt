@@ -30,7 +30,13 @@ same-length c = search needs
 
 returns : tie.Need-returns
 unfolding recordBytes
-returns c = simp ((c .before .before .controls-bytes .ensures), (c .before .before .before .before .before .before .set-byte4 .ensures), (c .before .before .before .before .before .before .before .before .before .before .before .set-byte3 .ensures), (c .before .before .before .before .before .before .before .before .before .before .before .before .before .before .before .set-byte2 .ensures), (c .before .before .before .before .before .before .before .before .before .before .before .before .before .before .before .before .before .before .before .set-byte .ensures), (c .before .before .before .before .before .before .before .before .before .before .before .before .before .before .before .before .before .before .before .before .truth-byte .ensures), (c .before .before .before .before .before .before .before .truth-byte2 .ensures))
+returns c =
+    let at-controls-bytes = c .before .before in
+    let at-set-byte4 = at-controls-bytes .before .before .before .before in
+    let at-set-byte3 = at-set-byte4 .before .before .before .before .before in
+    let at-set-byte2 = at-set-byte3 .before .before .before .before in
+    let at-set-byte = at-set-byte2 .before .before .before .before in
+    simp ((at-controls-bytes .controls-bytes .ensures), (at-set-byte4 .set-byte4 .ensures), (at-set-byte3 .set-byte3 .ensures), (at-set-byte2 .set-byte2 .ensures), (at-set-byte .set-byte .ensures), (at-set-byte .before .truth-byte .ensures), (at-set-byte4 .before .truth-byte2 .ensures))
 
 pub record-bytes-spec : {M : Type 1} → statement M
 record-bytes-spec =

@@ -1,9 +1,6 @@
 -- `capi::records::record_readable` meets its contract: code and definition take the same cases. Assumes nothing.
 use Rattle.capi.proofs.records.record_readable.Statement.{statement}
 use Rattle.capi.proofs.records.record_readable.Tie as tie
-use Rattle.capi.proofs.records.record_readable.Reads as reads
-use Rattle.capi.proofs.records.record_readable.Lts as lts
-use Rattle.page.proofs.bytes.byte_at.Reads as byte-at-reads
 
 byte-at-requires : tie.Need-byte-at-requires
 byte-at-requires c κs = tt

@@ -22,7 +22,11 @@ same-length c = search needs
 
 returns-2 : tie.Need-returns-2
 unfolding boundaryAt
-returns-2 c = simp (← (c .before .before .before .before .before .before .before .interrupt-window-exiting .ensures), c .before .before .before .before .before .before .if1 .left, c .before .before .before .before .if2 .taken) (c .before .before .delivery .ensures)
+returns-2 c =
+    let at-delivery = c .before .before in
+    let at-if2 = at-delivery .before .before in
+    let at-if1 = at-if2 .before .before in
+    simp (← (at-if1 .before .interrupt-window-exiting .ensures), at-if1 .if1 .left, at-if2 .if2 .taken) (at-delivery .delivery .ensures)
 
 quiet-requires : tie.Need-quiet-requires
 quiet-requires c κs = tt

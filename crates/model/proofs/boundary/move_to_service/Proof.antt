@@ -27,7 +27,11 @@ same-length c = search needs
 
 returns : tie.Need-returns
 unfolding deliveredPage
-returns c = simp (← (c .before .before .before .before .before .before .before .before .before .before .before .put-vector .ensures), ← (c .before .before .before .before .before .before .before .low-cleared .ensures), ← (c .before .before .before .before .before .before .set-word .ensures), ← (c .before .before .put-vector2 .ensures))
+returns c =
+    let at-put-vector2 = c .before .before in
+    let at-set-word = at-put-vector2 .before .before .before .before in
+    let at-put-vector = at-set-word .before .before .before .before .before in
+    simp (← (at-put-vector .put-vector .ensures), ← (at-set-word .before .low-cleared .ensures), ← (at-set-word .set-word .ensures), ← (at-put-vector2 .put-vector2 .ensures))
 
 pub move-to-service-spec : {M : Type 1} → statement M
 move-to-service-spec =

@@ -50,7 +50,12 @@ same-length c = search needs
 
 returns-3 : tie.Need-returns-3
 unfolding movToCr8 toCr8By
-returns-3 c = simp (← (c .before .before .before .before .before .before .before .before .before .before .to-cr8 .ensures), c .before .before .before .before .before .before .before .before .enum-told3 .given .1, ← (c .before .before .before .before .before .before .set-word .ensures)) (c .before .before .tpr-virtualization .ensures)
+returns-3 c =
+    let at-tpr-virtualization = c .before .before in
+    let at-set-word = at-tpr-virtualization .before .before .before .before in
+    let at-enum-told3 = at-set-word .before .before in
+    let at-to-cr8 = at-enum-told3 .before .before in
+    simp (← (at-to-cr8 .to-cr8 .ensures), at-enum-told3 .enum-told3 .given .1, ← (at-set-word .set-word .ensures)) (at-tpr-virtualization .tpr-virtualization .ensures)
 
 pub mov-to-cr8-spec : {M : Type 1} → statement M
 mov-to-cr8-spec =

@@ -18,7 +18,10 @@ same-length c = search needs
 
 returns : tie.Need-returns
 unfolding entered
-returns c = simp (← (c .before .before .before .before .before .before .before .virtual-delivery .ensures), c .before .before .before .before .before .before .if1 .taken, ← (c .before .before .before .before .ppr-virtualization .ensures)) (c .evaluated-quiet .ensures)
+returns c =
+    let at-ppr-virtualization = c .before .before .before .before in
+    let at-if1 = at-ppr-virtualization .before .before in
+    simp (← (at-if1 .before .virtual-delivery .ensures), at-if1 .if1 .taken, ← (at-ppr-virtualization .ppr-virtualization .ensures)) (c .evaluated-quiet .ensures)
 
 quiet-requires : tie.Need-quiet-requires
 quiet-requires c κs = tt

@@ -22,7 +22,10 @@ same-length c = search needs
 
 returns : tie.Need-returns
 unfolding entry
-returns c = simp (← (c .before .before .before .before .before .before .failing-check .ensures), eq-eqb _ _ (c .before .before .before .before .before .if1 .taken), ← (c .before .before .before .byte-at .ensures), ← (c .before .before .exits-at-entry .ensures), c .before .if2 .taken) (c .exit .ensures _)
+returns c =
+    let at-exits-at-entry = c .before .before in
+    let at-if1 = at-exits-at-entry .before .before .before in
+    simp (← (at-if1 .before .failing-check .ensures), eq-eqb _ _ (at-if1 .if1 .taken), ← (at-exits-at-entry .before .byte-at .ensures), ← (at-exits-at-entry .exits-at-entry .ensures), c .before .if2 .taken) (c .exit .ensures _)
 
 entered-requires : tie.Need-entered-requires
 entered-requires c κs = tt
@@ -32,7 +35,12 @@ same-length-2 c = search needs
 
 returns-2 : tie.Need-returns-2
 unfolding entry
-returns-2 c = simp (← (c .before .before .before .before .before .before .before .before .before .failing-check .ensures), eq-eqb _ _ (c .before .before .before .before .before .before .before .before .if1 .taken), ← (c .before .before .before .before .before .before .byte-at .ensures), ← (c .before .before .before .before .before .exits-at-entry .ensures), c .before .before .before .before .if2 .left) (c .before .before .entered .ensures)
+returns-2 c =
+    let at-entered = c .before .before in
+    let at-if2 = at-entered .before .before in
+    let at-byte-at = at-if2 .before .before in
+    let at-if1 = at-byte-at .before .before in
+    simp (← (at-if1 .before .failing-check .ensures), eq-eqb _ _ (at-if1 .if1 .taken), ← (at-byte-at .byte-at .ensures), ← (at-if2 .before .exits-at-entry .ensures), at-if2 .if2 .left) (at-entered .entered .ensures)
 
 refused-requires : tie.Need-refused-requires
 refused-requires c κs = tt

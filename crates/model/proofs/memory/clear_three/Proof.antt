@@ -24,7 +24,11 @@ same-length c = search needs
 
 returns : tie.Need-returns
 unfolding clearThree
-returns c = simp ((c .before .before .set-byte3 .ensures), (c .before .before .before .before .before .before .set-byte2 .ensures), (c .before .before .before .before .before .before .before .before .before .before .set-byte .ensures))
+returns c =
+    let at-set-byte3 = c .before .before in
+    let at-set-byte2 = at-set-byte3 .before .before .before .before in
+    let at-set-byte = at-set-byte2 .before .before .before .before in
+    simp ((at-set-byte3 .set-byte3 .ensures), (at-set-byte2 .set-byte2 .ensures), (at-set-byte .set-byte .ensures))
 
 pub clear-three-spec : {M : Type 1} → statement M
 clear-three-spec =

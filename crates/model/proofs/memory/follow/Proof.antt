@@ -63,14 +63,22 @@ same-length c = search needs
 
 returns : tie.Need-returns
 unfolding followBy
-returns c = simp (c .before .before .before .before .before .before .before .before .enum-told .given .1, ← (c .before .before .before .before .before .before .clear-three .ensures)) (c .before .before .tpr-virtualization .ensures)
+returns c =
+    let at-tpr-virtualization = c .before .before in
+    let at-clear-three = at-tpr-virtualization .before .before .before .before in
+    let at-enum-told = at-clear-three .before .before in
+    simp (at-enum-told .enum-told .given .1, ← (at-clear-three .clear-three .ensures)) (at-tpr-virtualization .tpr-virtualization .ensures)
 
 same-length-2 : tie.Need-same-length-2
 same-length-2 c = search needs
 
 returns-2 : tie.Need-returns-2
 unfolding followBy
-returns-2 c = simp (c .before .before .before .before .before .before .before .before .enum-told2 .given .1, ← (c .before .before .before .before .before .before .set-word .ensures)) (c .before .before .eoi-virtualization .ensures)
+returns-2 c =
+    let at-eoi-virtualization = c .before .before in
+    let at-set-word = at-eoi-virtualization .before .before .before .before in
+    let at-enum-told2 = at-set-word .before .before in
+    simp (at-enum-told2 .enum-told2 .given .1, ← (at-set-word .set-word .ensures)) (at-eoi-virtualization .eoi-virtualization .ensures)
 
 same-length-3 : tie.Need-same-length-3
 same-length-3 c = search needs

@@ -44,7 +44,12 @@ same-length c = search needs
 
 returns-3 : tie.Need-returns-3
 unfolding memoryWrite writeBy
-returns-3 c = simp (← (c .before .before .before .before .before .before .before .before .before .before .memory-access .ensures), c .before .before .before .before .before .before .before .before .enum-told3 .given .1, ← (c .before .before .before .before .before .before .store-at .ensures)) (c .before .before .written .ensures)
+returns-3 c =
+    let at-written = c .before .before in
+    let at-store-at = at-written .before .before .before .before in
+    let at-enum-told3 = at-store-at .before .before in
+    let at-memory-access = at-enum-told3 .before .before in
+    simp (← (at-memory-access .memory-access .ensures), at-enum-told3 .enum-told3 .given .1, ← (at-store-at .store-at .ensures)) (at-written .written .ensures)
 
 pub memory-write-spec : {M : Type 1} → statement M
 memory-write-spec =

@@ -80,21 +80,33 @@ same-length c = search needs
 
 returns-3 : tie.Need-returns-3
 unfolding writeMsrBy
-returns-3 c = simp (c .before .before .before .before .before .before .before .before .before .enum-told3 .given .1, ← (c .before .before .before .before .before .before .before .msr-offset .ensures), ← (c .before .before .before .before .before .before .set-long .ensures)) (c .before .before .tpr-virtualization .ensures)
+returns-3 c =
+    let at-tpr-virtualization = c .before .before in
+    let at-set-long = at-tpr-virtualization .before .before .before .before in
+    let at-enum-told3 = at-set-long .before .before .before in
+    simp (at-enum-told3 .enum-told3 .given .1, ← (at-set-long .before .msr-offset .ensures), ← (at-set-long .set-long .ensures)) (at-tpr-virtualization .tpr-virtualization .ensures)
 
 same-length-2 : tie.Need-same-length-2
 same-length-2 c = search needs
 
 returns-4 : tie.Need-returns-4
 unfolding writeMsrBy
-returns-4 c = simp (c .before .before .before .before .before .before .before .before .before .enum-told4 .given .1, ← (c .before .before .before .before .before .before .before .msr-offset2 .ensures), ← (c .before .before .before .before .before .before .set-long2 .ensures)) (c .before .before .eoi-virtualization .ensures)
+returns-4 c =
+    let at-eoi-virtualization = c .before .before in
+    let at-set-long2 = at-eoi-virtualization .before .before .before .before in
+    let at-enum-told4 = at-set-long2 .before .before .before in
+    simp (at-enum-told4 .enum-told4 .given .1, ← (at-set-long2 .before .msr-offset2 .ensures), ← (at-set-long2 .set-long2 .ensures)) (at-eoi-virtualization .eoi-virtualization .ensures)
 
 same-length-3 : tie.Need-same-length-3
 same-length-3 c = search needs
 
 returns-5 : tie.Need-returns-5
 unfolding writeMsrBy
-returns-5 c = simp (c .before .before .before .before .before .before .before .before .before .enum-told5 .given .1, ← (c .before .before .before .before .before .before .before .msr-offset3 .ensures), ← (c .before .before .before .before .before .before .set-long3 .ensures)) (c .before .before .self-ipi-virtualization .ensures)
+returns-5 c =
+    let at-self-ipi-virtualization = c .before .before in
+    let at-set-long3 = at-self-ipi-virtualization .before .before .before .before in
+    let at-enum-told5 = at-set-long3 .before .before .before in
+    simp (at-enum-told5 .enum-told5 .given .1, ← (at-set-long3 .before .msr-offset3 .ensures), ← (at-set-long3 .set-long3 .ensures)) (at-self-ipi-virtualization .self-ipi-virtualization .ensures)
 
 same-length-4 : tie.Need-same-length-4
 same-length-4 c = search needs

@@ -18,7 +18,10 @@ same-length c = search needs
 
 returns : tie.Need-returns
 unfolding tprVirtualization
-returns c = simp (← (c .before .before .before .before .before .before .before .virtual-delivery .ensures), c .before .before .before .before .before .before .if1 .taken, ← (c .before .before .before .before .ppr-virtualization .ensures)) (c .evaluated-quiet .ensures)
+returns c =
+    let at-ppr-virtualization = c .before .before .before .before in
+    let at-if1 = at-ppr-virtualization .before .before in
+    simp (← (at-if1 .before .virtual-delivery .ensures), at-if1 .if1 .taken, ← (at-ppr-virtualization .ppr-virtualization .ensures)) (c .evaluated-quiet .ensures)
 
 byte-at-requires : tie.Need-byte-at-requires
 byte-at-requires c κs = tt
@@ -34,7 +37,10 @@ same-length-2 c = search needs
 
 returns-2 : tie.Need-returns-2
 unfolding tprVirtualization
-returns-2 c = simp (← (c .before .before .before .before .before .before .virtual-delivery .ensures), c .before .before .before .before .before .if1 .left, ← (c .before .before .before .byte-at .ensures), ← (c .before .before .below-threshold .ensures), c .before .if2 .taken) (c .exit .ensures _)
+returns-2 c =
+    let at-below-threshold = c .before .before in
+    let at-if1 = at-below-threshold .before .before .before in
+    simp (← (at-if1 .before .virtual-delivery .ensures), at-if1 .if1 .left, ← (at-below-threshold .before .byte-at .ensures), ← (at-below-threshold .below-threshold .ensures), c .before .if2 .taken) (c .exit .ensures _)
 
 quiet-requires : tie.Need-quiet-requires
 quiet-requires c κs = tt
@@ -44,7 +50,10 @@ same-length-3 c = search needs
 
 returns-3 : tie.Need-returns-3
 unfolding tprVirtualization
-returns-3 c = simp (← (c .before .before .before .before .before .before .virtual-delivery .ensures), c .before .before .before .before .before .if1 .left, ← (c .before .before .before .byte-at .ensures), ← (c .before .before .below-threshold .ensures), c .before .if2 .left) (c .quiet .ensures _)
+returns-3 c =
+    let at-below-threshold = c .before .before in
+    let at-if1 = at-below-threshold .before .before .before in
+    simp (← (at-if1 .before .virtual-delivery .ensures), at-if1 .if1 .left, ← (at-below-threshold .before .byte-at .ensures), ← (at-below-threshold .below-threshold .ensures), c .before .if2 .left) (c .quiet .ensures _)
 
 pub tpr-virtualization-spec : {M : Type 1} → statement M
 tpr-virtualization-spec =

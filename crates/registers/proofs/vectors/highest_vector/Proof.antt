@@ -55,9 +55,11 @@ cast-result c = omega arith
 
 returns : tie.Need-returns Inv-loop μ-loop
 returns c =
-    word-found _ _ (c .before .before .before .before .loop .left) (λ i. c .before .before .before .before .before .shared-slice-known .given i .fits)
-    (c .before .before .before .loop-test .taken) (c .before .before .before .before .loop .inv .0) (c .before .before .before .before .loop .inv .1)
-    (c .before .highest-bit .result) (c .before .highest-bit .ensures ∙ ap (λ w. highestBit w 32) (c .before .before .word-at .ensures)) (c .if1 .taken)
+    let at-word-at = c .before .before in
+    let at-loop = at-word-at .before .before in
+    word-found _ _ (at-loop .loop .left) (λ i. at-loop .before .shared-slice-known .given i .fits)
+    (at-word-at .before .loop-test .taken) (at-loop .loop .inv .0) (at-loop .loop .inv .1)
+    (c .before .highest-bit .result) (c .before .highest-bit .ensures ∙ ap (λ w. highestBit w 32) (at-word-at .word-at .ensures)) (c .if1 .taken)
 
 sub-left : tie.Need-sub-left Inv-loop μ-loop
 sub-left c = omega arith

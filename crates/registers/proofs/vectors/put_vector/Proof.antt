@@ -27,7 +27,11 @@ same-length c = search needs
 
 returns : tie.Need-returns
 unfolding putVector
-returns c = rw (c .before .before .put-in .ensures, zero-add) (changed-part (c .before .before .before .before .before .before .args .page .now) (c .before .before .before .before .before .before .args .base) (vectorByte (c .before .before .before .before .before .before .args .vector)) (λ x. putBit x (c .before .before .before .before .before .before .args .vector % 8) (c .before .before .before .before .before .before .args .on)) (c .before .before .before .before .if1 .taken))
+returns c =
+    let at-put-in = c .before .before in
+    let at-if1 = at-put-in .before .before in
+    let start = at-if1 .before .before in
+    rw (at-put-in .put-in .ensures, zero-add) (changed-part (start .args .page .now) (start .args .base) (vectorByte (start .args .vector)) (λ x. putBit x (start .args .vector % 8) (start .args .on)) (at-if1 .if1 .taken))
 
 returns-2 : tie.Need-returns-2
 unfolding putVector

@@ -29,11 +29,19 @@ check-4-requires c κs = tt
 
 returns-4 : tie.Need-returns-4
 unfolding failingCheck
-returns-4 c = simp (← (c .before .before .before .before .before .before .before .check-1 .ensures), c .before .before .before .before .before .before .if1 .left, ← (c .before .before .before .before .before .check-2 .ensures), c .before .before .before .before .if2 .left, ← (c .before .before .before .check-3 .ensures), c .before .before .if3 .left, ← (c .before .check-4 .ensures), c .if4 .taken)
+returns-4 c =
+    let at-if3 = c .before .before in
+    let at-if2 = at-if3 .before .before in
+    let at-if1 = at-if2 .before .before in
+    simp (← (at-if1 .before .check-1 .ensures), at-if1 .if1 .left, ← (at-if2 .before .check-2 .ensures), at-if2 .if2 .left, ← (at-if3 .before .check-3 .ensures), at-if3 .if3 .left, ← (c .before .check-4 .ensures), c .if4 .taken)
 
 returns-5 : tie.Need-returns-5
 unfolding failingCheck
-returns-5 c = simp (← (c .before .before .before .before .before .before .before .check-1 .ensures), c .before .before .before .before .before .before .if1 .left, ← (c .before .before .before .before .before .check-2 .ensures), c .before .before .before .before .if2 .left, ← (c .before .before .before .check-3 .ensures), c .before .before .if3 .left, ← (c .before .check-4 .ensures), c .if4 .left)
+returns-5 c =
+    let at-if3 = c .before .before in
+    let at-if2 = at-if3 .before .before in
+    let at-if1 = at-if2 .before .before in
+    simp (← (at-if1 .before .check-1 .ensures), at-if1 .if1 .left, ← (at-if2 .before .check-2 .ensures), at-if2 .if2 .left, ← (at-if3 .before .check-3 .ensures), at-if3 .if3 .left, ← (c .before .check-4 .ensures), c .if4 .left)
 
 pub failing-check-spec : {M : Type 1} → statement M
 failing-check-spec =

@@ -42,7 +42,12 @@ same-length c = search needs
 
 returns : tie.Need-returns
 unfolding setWord
-returns c = simp ((c .before .before .set-byte4 .ensures), (c .before .before .before .before .before .before .set-byte3 .ensures), (c .before .before .before .before .before .before .before .before .before .before .set-byte2 .ensures), (c .before .before .before .before .before .before .before .before .before .before .before .before .before .before .set-byte .ensures))
+returns c =
+    let at-set-byte4 = c .before .before in
+    let at-set-byte3 = at-set-byte4 .before .before .before .before in
+    let at-set-byte2 = at-set-byte3 .before .before .before .before in
+    let at-set-byte = at-set-byte2 .before .before .before .before in
+    simp ((at-set-byte4 .set-byte4 .ensures), (at-set-byte3 .set-byte3 .ensures), (at-set-byte2 .set-byte2 .ensures), (at-set-byte .set-byte .ensures))
 
 pub set-part-word-spec : {M : Type 1} → statement M
 set-part-word-spec =

@@ -42,7 +42,11 @@ same-length-3 c = search needs
 
 returns-3 : tie.Need-returns-3
 unfolding storeAt
-returns-3 c = simp (ne-eqb _ _ (c .before .before .before .before .before .before .if1 .left), ne-eqb _ _ (c .before .before .before .before .before .if2 .left), eq-eqb _ _ (c .before .before .before .before .if3 .taken), ← (c .before .before .set-word .ensures))
+returns-3 c =
+    let at-set-word = c .before .before in
+    let at-if3 = at-set-word .before .before in
+    let at-if1 = at-if3 .before .before in
+    simp (ne-eqb _ _ (at-if1 .if1 .left), ne-eqb _ _ (at-if3 .before .if2 .left), eq-eqb _ _ (at-if3 .if3 .taken), ← (at-set-word .set-word .ensures))
 
 set-long-requires : tie.Need-set-long-requires
 set-long-requires c κs = tt
@@ -52,7 +56,11 @@ same-length-4 c = search needs
 
 returns-4 : tie.Need-returns-4
 unfolding storeAt
-returns-4 c = simp (ne-eqb _ _ (c .before .before .before .before .before .before .if1 .left), ne-eqb _ _ (c .before .before .before .before .before .if2 .left), ne-eqb _ _ (c .before .before .before .before .if3 .left), ← (c .before .before .set-long .ensures))
+returns-4 c =
+    let at-set-long = c .before .before in
+    let at-if3 = at-set-long .before .before in
+    let at-if1 = at-if3 .before .before in
+    simp (ne-eqb _ _ (at-if1 .if1 .left), ne-eqb _ _ (at-if3 .before .if2 .left), ne-eqb _ _ (at-if3 .if3 .left), ← (at-set-long .set-long .ensures))
 
 pub store-at-spec : {M : Type 1} → statement M
 store-at-spec =
