@@ -14,7 +14,7 @@ use Rattle.rules.specs.Procedures.{larger}
 use Rattle.processor.proofs.Tests.{below, same, and-left, and-right}
 use Rattle.page.specs.Page.{byteAt}
 use Rattle.stores.specs.Stores.{setByte}
-use Rattle.registers.specs.Vectors.{vectorByte, putBit, isSet, put, putVector, setVector, highest}
+use Rattle.registers.specs.Vectors.{vectorByte, putBit, isSet, put, putVector, highest}
 use Rattle.registers.proofs.Top.{highest-top, top-ext, top-raise, top-fewer, top-below}
 
 -- one bit of a byte changed, read at each bit: on and off, computed at every byte and pair of bits
@@ -68,9 +68,6 @@ module _ (p : List ℕ) (base : ℕ) (fits : base + 0x80 ≤ length p) (bytes : 
   unfolding isSet putVector
   isSet-put v on hv w = by-byte (eqb (vectorByte v) (vectorByte w)) refl
     where
-      b : ℕ
-      b = byteAt p (base + vectorByte v)
-
       low : v % 8 < 8
       low = omega arith
 
@@ -106,12 +103,12 @@ pub isSet-other : (p : List ℕ) (base at x w : ℕ) → (base + vectorByte w �
 unfolding isSet
 isSet-other p base at x w ne = ap (λ b. bit b (w % 8)) (getD-set-other p at (base + vectorByte w) x 0 ne)
 
--- setting a vector makes the highest the larger of itself and the vector
-pub highest-raise : (p : List ℕ) (base : ℕ) → base + 0x80 ≤ length p → ((i : ℕ) → byteAt p i < 256) → (v : ℕ) → v < 256 → highest (setVector p base v) base ≡ larger (highest p base) v
+-- a register with one more vector set has the larger of its highest and that vector as its highest
+pub highest-raised : (p q : List ℕ) (base v : ℕ) → v < 256 → ((w : ℕ) → w < 256 → isSet q base w ≡ put (isSet p base) v true w) → highest q base ≡ larger (highest p base) v
 unfolding highest
-highest-raise p base fits bytes v h =
-    highest-top (setVector p base v) base 256
-    ∙ top-ext (isSet (setVector p base v) base) (put (isSet p base) v true) 256 (λ w l. isSet-put p base fits bytes v true h w)
+highest-raised p q base v h e =
+    highest-top q base 256
+    ∙ top-ext (isSet q base) (put (isSet p base) v true) 256 e
     ∙ top-raise (isSet p base) 256 v h
     ∙ ap (λ t. larger t v) (sym (highest-top p base 256))
 

@@ -14,8 +14,8 @@ use Rattle.events.specs.declared.event.Event.{Event}
 use Rattle.processor.proofs.Tests.{below, right}
 use Rattle.page.specs.Page.{vppr, visr, virr, byteAt, IsPage}
 use Rattle.registers.specs.Vectors.{isSet, highestBelow, highest, put}
-use Rattle.registers.proofs.Top.{highest-top, top-ext, top-raise}
-use Rattle.registers.proofs.Registers.{highest-ext, highest-byte}
+use Rattle.registers.proofs.Top.{highest-top}
+use Rattle.registers.proofs.Registers.{highest-ext, highest-raised, highest-byte}
 use Rattle.runs.specs.After.{After}
 use Rattle.runs.specs.Moves.{Move, stays, raises, delivers, retires, moveOf, Moved}
 use Rattle.runs.specs.Settled.{ByteRecord, Settled}
@@ -61,13 +61,11 @@ above vs h i t r = over (i .settled .priority t) (ltb-true (class (byteAt (h .pa
 
 -- the registers' highest bits, the service bits and their ladder after a move
 module _ (vs : List ℕ) (h : Held) (a : After) (i : Inv vs h) where
+  same-highest : (base n : ℕ) → n ≡ highest (h .page) base → ((w : ℕ) → w < 256 → isSet (a .page) base w ≡ isSet (h .page) base w) → n ≡ highest (a .page) base
+  same-highest base n q e = q ∙ sym (highest-ext (a .page) (h .page) base e)
+
   raised : (v : ℕ) → v < 256 → ((w : ℕ) → w < 256 → isSet (a .page) virr w ≡ put (isSet (h .page) virr) v true w) → larger (h .state .rvi) v ≡ highest (a .page) virr
-  unfolding highest
-  raised v l e =
-      ap (λ t. larger t v) (i .rvi ∙ highest-top (h .page) virr 256)
-      ∙ sym (top-raise (isSet (h .page) virr) 256 v l)
-      ∙ sym (top-ext (isSet (a .page) virr) (put (isSet (h .page) virr) v true) 256 e)
-      ∙ sym (highest-top (a .page) virr 256)
+  raised v l e = ap (λ t. larger t v) (i .rvi) ∙ sym (highest-raised (h .page) (a .page) virr v l e)
 
   latest : (us : List ℕ) → Ladder us → ((w : ℕ) → w < 256 → isSet (a .page) visr w ≡ member w us) → front us ≡ highest (a .page) visr
   unfolding highest
@@ -76,8 +74,8 @@ module _ (vs : List ℕ) (h : Held) (a : After) (i : Inv vs h) where
   by-move : (m : Move) → IsPage (a .page) → Settled (a .page) (a .state) → Moved m (h .page) (h .state) a → Inv (served m vs) (heldAfter a)
   by-move stays g s d = record {
     isPage = g;
-    rvi = d .rvi ∙ i .rvi ∙ sym (highest-ext (a .page) (h .page) virr (d .request));
-    svi = d .svi ∙ i .svi ∙ sym (highest-ext (a .page) (h .page) visr (d .service));
+    rvi = d .rvi ∙ same-highest virr (h .state .rvi) (i .rvi) (d .request);
+    svi = d .svi ∙ same-highest visr (h .state .svi) (i .svi) (d .service);
     settled = s;
     service = λ w l. d .service w l ∙ i .service w l;
     ladder = i .ladder;
@@ -85,7 +83,7 @@ module _ (vs : List ℕ) (h : Held) (a : After) (i : Inv vs h) where
   by-move (raises v) g s d = record {
     isPage = g;
     rvi = d .rvi ∙ raised v (d .vector) (d .request);
-    svi = d .svi ∙ i .svi ∙ sym (highest-ext (a .page) (h .page) visr (d .service));
+    svi = d .svi ∙ same-highest visr (h .state .svi) (i .svi) (d .service);
     settled = s;
     service = λ w l. d .service w l ∙ i .service w l;
     ladder = i .ladder;
@@ -108,7 +106,7 @@ module _ (vs : List ℕ) (h : Held) (a : After) (i : Inv vs h) where
       service′ w l = d .service w l ∙ pushed (isSet (h .page) visr) v vs w (i .service w l)
   by-move retires g s d = record {
     isPage = g;
-    rvi = d .rvi ∙ i .rvi ∙ sym (highest-ext (a .page) (h .page) virr (d .request));
+    rvi = d .rvi ∙ same-highest virr (h .state .rvi) (i .rvi) (d .request);
     svi = d .svi;
     settled = s;
     service = λ w l. d .service w l ∙ ap (λ x. put (isSet (h .page) visr) x false w) (svi-front vs h i) ∙ popped (isSet (h .page) visr) vs (i .ladder) w (i .service w l);

@@ -1,7 +1,7 @@
 -- Pages that agree in their request and service bits, and in VPPR too, and which stores keep that. Assumes nothing.
 use Prim.Native.Nat.{ℕ, _+_, _/_, _%_, _≤_, _<_}
 use native.Mathlib.Omega.{arith}
-use mathlib.Core.Path.{_≡_, refl, sym, _∙_, ap}
+use mathlib.Core.Path.{_≡_, refl, sym, _∙_, ap, subst}
 use mathlib.Core.Bool.{Bool, true, false, not, _&&_, _||_, true≢false}
 use mathlib.Core.Logic.{_⊎_, inl, inr, ⊎-elim}
 use mathlib.Core.List.{List}
@@ -88,7 +88,7 @@ kept-set p q i x k e hx = record {
   vppr = getD-set-other q i vppr x 0 (other i (left (not (eqb i 0x0a0)) (apart i) e)) ∙ k .vppr;
 }
 
-byte-of : (x : ℕ) → x % 0x100 < 256
+pub byte-of : (x : ℕ) → x % 0x100 < 256
 byte-of x = omega arith
 
 pub kept-half : (p q : List ℕ) (i x : ℕ) → Kept p q → free i ≡ true → free (i + 1) ≡ true → Kept p (setHalf q i x)
@@ -102,7 +102,7 @@ kept-word p q i x k e₀ e₁ e₂ e₃ =
     (kept-set p _ (i + 2) _ (kept-set p _ (i + 1) _ (kept-set p q i _ k e₀ (byte-of x)) e₁ (byte-of (x / 0x100))) e₂ (byte-of (x / 0x1_0000)))
     e₃ (byte-of (x / 0x100_0000))
 
--- a word stored at VPPR keeps the bits, and VPPR is its low byte
+-- a word stored at VPPR keeps the bits
 pub same-vppr : (p q : List ℕ) (x : ℕ) → Same p q → Same p (setWord q vppr x)
 unfolding setWord
 same-vppr p q x s =
@@ -110,16 +110,25 @@ same-vppr p q x s =
     (same-set p _ (vppr + 2) _ (same-set p _ (vppr + 1) _ (same-set p q vppr _ s refl (byte-of x)) refl (byte-of (x / 0x100))) refl (byte-of (x / 0x1_0000)))
     refl (byte-of (x / 0x100_0000))
 
-pub vppr-stored : (q : List ℕ) (x : ℕ) → IsPage q → byteAt (setWord q vppr x) vppr ≡ x % 0x100
-unfolding setWord
-vppr-stored q x g =
-    getD-set-other (set (set (set q 0x0a0 (x % 0x100)) 0x0a1 (x / 0x100 % 0x100)) 0x0a2 (x / 0x1_0000 % 0x100)) 0x0a3 0x0a0 (x / 0x100_0000 % 0x100) 0 (ne 0x0a3 (lit< tt))
-    ∙ getD-set-other (set (set q 0x0a0 (x % 0x100)) 0x0a1 (x / 0x100 % 0x100)) 0x0a2 0x0a0 (x / 0x1_0000 % 0x100) 0 (ne 0x0a2 (lit< tt))
-    ∙ getD-set-other (set q 0x0a0 (x % 0x100)) 0x0a1 0x0a0 (x / 0x100 % 0x100) 0 (ne 0x0a1 (lit< tt))
-    ∙ getD-set-same q 0x0a0 (x % 0x100) 0 (inside (g .size))
-  where
-    ne : (n : ℕ) → 0x0a0 < n → 0x0a0 ≡ n → ⊥
-    ne n l e = omega arith
+-- the byte at which a half or a word is stored is its low byte
+later : (i k : ℕ) → 0 < k → i ≡ i + k → ⊥
+later i k l e = omega arith
 
-    inside : length q ≡ 4096 → 0x0a0 < length q
-    inside e = omega arith
+pub half-stored : (q : List ℕ) (i x : ℕ) → i < length q → byteAt (setHalf q i x) i ≡ x % 0x100
+unfolding setHalf
+half-stored q i x h = getD-set-other (set q i (x % 0x100)) (i + 1) i _ 0 (later i 1 (lit< tt)) ∙ getD-set-same q i (x % 0x100) 0 h
+
+pub word-stored : (q : List ℕ) (i x : ℕ) → i < length q → byteAt (setWord q i x) i ≡ x % 0x100
+unfolding setWord
+word-stored q i x h =
+    getD-set-other (set (set (set q i (x % 0x100)) (i + 1) _) (i + 2) _) (i + 3) i _ 0 (later i 3 (lit< tt))
+    ∙ getD-set-other (set (set q i (x % 0x100)) (i + 1) _) (i + 2) i _ 0 (later i 2 (lit< tt))
+    ∙ getD-set-other (set q i (x % 0x100)) (i + 1) i _ 0 (later i 1 (lit< tt))
+    ∙ getD-set-same q i (x % 0x100) 0 h
+
+-- a page has every offset below 4096
+pub within-page : (p : List ℕ) (i : ℕ) → IsPage p → i < 4096 → i < length p
+within-page p i g h = subst (λ n. i < n) (sym (g .size)) h
+
+pub vppr-stored : (q : List ℕ) (x : ℕ) → IsPage q → byteAt (setWord q vppr x) vppr ≡ x % 0x100
+vppr-stored q x g = word-stored q vppr x (within-page q vppr g (lit< tt))

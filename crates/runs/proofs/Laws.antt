@@ -6,8 +6,8 @@ use mathlib.Core.Path.{_≡_, refl, sym, _∙_, ap}
 use mathlib.Core.Bool.{Bool, true, false, not, _&&_, _||_, true≢false, false≢true}
 use mathlib.Core.List.{List}
 use lib.Dec.{eqb, leb, ltb, lit<}
-use lib.ListN.{length, set}
-use lib.Seq.{getD-set-same, getD-set-other}
+use lib.ListN.{length}
+use lib.Seq.{getD-set-same}
 use borrow.Author.Tests.{eqb-true, ltb-true, leb-true, ne-eqb}
 use Rattle.processor.specs.Logic.{if_then_else_}
 use Rattle.events.specs.Answers.{Numbers, numbers}
@@ -27,7 +27,7 @@ use Rattle.accesses.specs.declared.memory.Access.the-variants.{Passthrough, Exi
 use Rattle.accesses.specs.declared.memory.Following.the-variants.{Tpr, Eoi, SelfIpi, IcrHigh, ApicWrite}
 use Rattle.instructions.specs.declared.msr.MsrWrite.the-variants.{Passthrough as MsrPassthrough, Fault, Tpr as MsrTpr, Eoi as MsrEoi, SelfIpi as MsrSelfIpi, ApicWrite as MsrApicWrite}
 use Rattle.page.specs.Page.{virr, vtpr, veoi, vicrLo, vicrHi, byteAt, wordAt, longAt, readAt, IsPage}
-use Rattle.stores.specs.Stores.{setHalf, setWord, setLong, storeAt}
+use Rattle.stores.specs.Stores.{setWord, setLong, storeAt}
 use Rattle.registers.specs.Vectors.{highest}
 use Rattle.runs.specs.After.{refused, redirected, passthrough, exit, quiet}
 use Rattle.runs.specs.Entry.{entry, entered, request}
@@ -38,7 +38,7 @@ use Rattle.runs.specs.Step.{carriedOut, step}
 use Rattle.runs.specs.Moves.{stays, raises, delivers, isQuiet, isDelivered, isQuietOr45, raisesIf, retiresIf, deliversIf, moveOf, Moved}
 use Rattle.runs.specs.Settled.{ByteRecord, Settled}
 use Rattle.runs.specs.History.{deliveryOn}
-use Rattle.runs.proofs.Kept.{Same, Kept, free, same-refl, kept-refl, kept-set, kept-word}
+use Rattle.runs.proofs.Kept.{Same, Kept, free, same-refl, kept-refl, kept-set, kept-word, half-stored, word-stored, within-page}
 use Rattle.runs.proofs.Stores.{kept-store}
 use Rattle.runs.proofs.Leaves.{Good, good-same, good-exit, good-quiet, good-tpr, good-eoi, good-self-ipi, good-request, good-entered, good-delivery}
 
@@ -96,37 +96,20 @@ kept-long : (p q : List ℕ) (i x : ℕ) → Kept p q → free i ≡ true → fr
 unfolding setLong
 kept-long p q i x k e₀ e₁ e₂ e₃ e₄ e₅ e₆ e₇ = kept-word p _ (i + 4) _ (kept-word p q i _ k e₀ e₁ e₂ e₃) e₄ e₅ e₆ e₇
 
--- VICR_LO lies on the page, its other bytes elsewhere, and cutting a value to its size keeps its low byte
-inside : (p : List ℕ) → IsPage p → 0x300 < length p
-inside p g = from (g .size)
-  where
-    from : length p ≡ 4096 → 0x300 < length p
-    from e = omega arith
-
-ne : (n : ℕ) → 0x300 < n → 0x300 ≡ n → ⊥
-ne n l e = omega arith
-
+-- cutting a value to its size keeps its low byte
 narrow₂ : (x : ℕ) → x % 0x1_0000 % 0x100 ≡ x % 0x100
 narrow₂ x = omega arith
 
 narrow₄ : (x : ℕ) → x % 0x1_0000_0000 % 0x100 ≡ x % 0x100
 narrow₄ x = omega arith
 
--- VICR_LO's low byte after a store at 300 is the value's
-low-stored : (p : List ℕ) (size value : ℕ) → IsPage p → (a b d : Bool) → eqb size 1 ≡ a → eqb size 2 ≡ b → eqb size 4 ≡ d → (a || b || d) ≡ true → byteAt (storeAt p 0x300 size value) 0x300 ≡ value % 0x100
-unfolding storeAt setHalf setWord
-low-stored p size value g true b d e₁ e₂ e₄ s = simp e₁ (getD-set-same p 0x300 (value % 0x100) 0 (inside p g))
-low-stored p size value g false true d e₁ e₂ e₄ s =
-    simp (e₁, e₂)
-    (getD-set-other (set p 0x300 (value % 0x1_0000 % 0x100)) 0x301 0x300 _ 0 (ne 0x301 (lit< tt))
-    ∙ getD-set-same p 0x300 (value % 0x1_0000 % 0x100) 0 (inside p g) ∙ narrow₂ value)
-low-stored p size value g false false true e₁ e₂ e₄ s =
-    simp (e₁, e₂, e₄)
-    (getD-set-other (set (set (set p 0x300 (value % 0x1_0000_0000 % 0x100)) 0x301 _) 0x302 _) 0x303 0x300 _ 0 (ne 0x303 (lit< tt))
-    ∙ getD-set-other (set (set p 0x300 (value % 0x1_0000_0000 % 0x100)) 0x301 _) 0x302 0x300 _ 0 (ne 0x302 (lit< tt))
-    ∙ getD-set-other (set p 0x300 (value % 0x1_0000_0000 % 0x100)) 0x301 0x300 _ 0 (ne 0x301 (lit< tt))
-    ∙ getD-set-same p 0x300 (value % 0x1_0000_0000 % 0x100) 0 (inside p g) ∙ narrow₄ value)
-low-stored p size value g false false false e₁ e₂ e₄ s = absurd (false≢true s)
+-- the byte at an offset after a store there is the value's low byte
+low-stored : (p : List ℕ) (i size value : ℕ) → i < length p → (a b d : Bool) → eqb size 1 ≡ a → eqb size 2 ≡ b → eqb size 4 ≡ d → (a || b || d) ≡ true → byteAt (storeAt p i size value) i ≡ value % 0x100
+unfolding storeAt
+low-stored p i size value h true b d e₁ e₂ e₄ s = simp e₁ (getD-set-same p i (value % 0x100) 0 h)
+low-stored p i size value h false true d e₁ e₂ e₄ s = simp (e₁, e₂) (half-stored p i (value % 0x1_0000) h ∙ narrow₂ value)
+low-stored p i size value h false false true e₁ e₂ e₄ s = simp (e₁, e₂, e₄) (word-stored p i (value % 0x1_0000_0000) h ∙ narrow₄ value)
+low-stored p i size value h false false false e₁ e₂ e₄ s = absurd (false≢true s)
 
 -- ---- a write to memory
 module _ (p : List ℕ) (r : Record) (offset size : ℕ) (fetch already : Bool) (value : ℕ) (g : IsPage p) (b : ByteRecord r) (t : r .guest ≡ true) where
@@ -158,7 +141,7 @@ module _ (p : List ℕ) (r : Record) (offset size : ℕ) (fetch already : Bool) 
       sized false false false f e q = absurd (false≢true (sym q ∙ e))
 
       low : byteAt (storeAt p 0x300 size value) vicrLo ≡ value % 0x100
-      low = low-stored p size value g (eqb size 1) (eqb size 2) (eqb size 4) refl refl refl (sized (eqb size 1) (eqb size 2) (eqb size 4) (eqb size 8) s n)
+      low = low-stored p vicrLo size value (within-page p vicrLo g (lit< tt)) (eqb size 1) (eqb size 2) (eqb size 4) refl refl refl (sized (eqb size 1) (eqb size 2) (eqb size 4) (eqb size 8) s n)
   follows k s n false false false true ew ex ey ez =
       good-quiet p r write g b (clearThree stored vicrHi) (kept-three p stored vicrHi k refl refl refl)
       (simp (ne-eqb offset 0x300 (above 0x300 (lit< tt) (leb-true 0x310 offset (left (leb 0x310 offset) (ltb offset 0x314) ez))), ne-eqb offset 0x0b0 (above 0x0b0 (lit< tt) (leb-true 0x310 offset (left (leb 0x310 offset) (ltb offset 0x314) ez)))))

@@ -160,21 +160,23 @@ module _ (p : List ℕ) (r : Record) (e : Event) (g : IsPage p) (b : ByteRecord 
     };
   }
 
+  -- PPR virtualization and evaluation in guest mode, with RVI and SVI as they were
+  good-evaluated : (q : List ℕ) (s : Record) → Same p q → s .guest ≡ true → virtualDelivery (s .controls) ≡ true → s .rvi ≡ r .rvi → s .svi ≡ r .svi → moveOf e (numbers 6 0 0) ≡ stays → Good p r e (evaluatedQuiet (pprVirtualization q s) s)
+  unfolding evaluatedQuiet evaluation
+  good-evaluated q s k t d i j m = record {
+    isPage = same-ppr p q s k .isPage;
+    moved = moved-stays (evaluatedQuiet (pprVirtualization q s) s) m (same-ppr p q s k) i j;
+    named = λ x. absurd (false≢true x);
+    settled = λ h s′ o. settled-evaluated (pprVirtualization q s) s t d (ppr-class q s (k .isPage) (subst (λ v. v < 256) (sym j) (b .svi)));
+  }
+
   -- TPR virtualization
   pub good-tpr : (q : List ℕ) → Kept p q → r .guest ≡ true → ((n : Numbers) → moveOf e n ≡ stays) → Good p r e (tprVirtualization q r)
-  unfolding tprVirtualization evaluatedQuiet evaluation
+  unfolding tprVirtualization
   good-tpr q k t m = by (virtualDelivery (r .controls)) refl (belowThreshold (r .controls) (byteAt q vtpr))
     where
-      evaluatedEnd : virtualDelivery (r .controls) ≡ true → Good p r e (evaluatedQuiet (pprVirtualization q r) r)
-      evaluatedEnd d = record {
-        isPage = same-ppr p q r (k .same) .isPage;
-        moved = moved-stays (quiet (pprVirtualization q r) (evaluation (pprVirtualization q r) r)) (m (numbers 6 0 0)) (same-ppr p q r (k .same)) refl refl;
-        named = λ x. absurd (false≢true x);
-        settled = λ i s x. settled-evaluated (pprVirtualization q r) r t d (ppr-class q r (k .same .isPage) (b .svi));
-      }
-
       by : (d : Bool) → virtualDelivery (r .controls) ≡ d → (x : Bool) → Good p r e (if d then evaluatedQuiet (pprVirtualization q r) r else (if x then exit 43 0 q r else quiet q r))
-      by true d x = evaluatedEnd d
+      by true d x = good-evaluated q r (k .same) t d refl refl (m (numbers 6 0 0))
       by false d true = good-exit 43 0 q r (k .same) (m (numbers 4 43 0)) refl refl
       by false d false = good-quiet q k (m (numbers 6 0 0))
 
@@ -249,16 +251,11 @@ module _ (p : List ℕ) (r : Record) (e : Event) (g : IsPage p) (b : ByteRecord 
 
   -- an entry that was not refused and did not exit
   pub good-entered : (c : Controls) → ((n : Numbers) → moveOf e n ≡ stays) → (deliveryOn e → virtualDelivery c ≡ true) → Good p r e (entered p (withGuest (withControls r c) true))
-  unfolding entered evaluatedQuiet evaluation
+  unfolding entered
   good-entered c m o = by (virtualDelivery c) refl
     where
-      by : (x : Bool) → virtualDelivery c ≡ x → Good p r e (if x then quiet (pprVirtualization p (withGuest (withControls r c) true)) (evaluation (pprVirtualization p (withGuest (withControls r c) true)) (withGuest (withControls r c) true)) else quiet p (withRecognised (withGuest (withControls r c) true) false))
-      by true x = record {
-        isPage = same-ppr p p (withGuest (withControls r c) true) (same-refl p g) .isPage;
-        moved = moved-stays (quiet (pprVirtualization p (withGuest (withControls r c) true)) (evaluation (pprVirtualization p (withGuest (withControls r c) true)) (withGuest (withControls r c) true))) (m (numbers 6 0 0)) (same-ppr p p (withGuest (withControls r c) true) (same-refl p g)) refl refl;
-        named = λ x. absurd (false≢true x);
-        settled = λ i s d. settled-evaluated (pprVirtualization p (withGuest (withControls r c) true)) (withGuest (withControls r c) true) refl x (ppr-class p (withGuest (withControls r c) true) g (b .svi));
-      }
+      by : (x : Bool) → virtualDelivery c ≡ x → Good p r e (if x then evaluatedQuiet (pprVirtualization p (withGuest (withControls r c) true)) (withGuest (withControls r c) true) else quiet p (withRecognised (withGuest (withControls r c) true) false))
+      by true x = good-evaluated p (withGuest (withControls r c) true) (same-refl p g) refl x refl refl (m (numbers 6 0 0))
       by false x = record {
         isPage = g;
         moved = moved-stays (quiet p (withRecognised (withGuest (withControls r c) true) false)) (m (numbers 6 0 0)) (same-refl p g) refl refl;

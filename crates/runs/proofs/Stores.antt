@@ -15,7 +15,7 @@ use Rattle.processor.specs.declared.controls.Controls.{Controls}
 use Rattle.processor.proofs.Tests.{below}
 use Rattle.page.specs.Page.{IsPage}
 use Rattle.stores.specs.Stores.{storeAt}
-use Rattle.runs.proofs.Kept.{Kept, free, kept-refl, kept-set, kept-half, kept-word}
+use Rattle.runs.proofs.Kept.{Kept, free, kept-refl, kept-set, byte-of, kept-half, kept-word}
 
 -- open to a write in some setting
 abbrev openAny : ℕ → Bool
@@ -65,9 +65,6 @@ module _ (p : List ℕ) (o size value : ℕ) (g : IsPage p) (c : Controls) (ho :
 
   first-byte : 0 < size → free o ≡ true
   first-byte h = subst (λ i. free i ≡ true) (add-zero o) (at 0 (lit< tt) h)
-
-  byte-of : (x : ℕ) → x % 0x100 < 256
-  byte-of x = omega arith
 
   of-size : (n : ℕ) → size ≡ n → (k : ℕ) → k < n → k < size
   of-size n q k h = omega arith
