@@ -30,6 +30,11 @@ below zero f t k h = absurd (not-suc-le-zero h)
 below (suc n) f t k h =
     step n f k h (and-left (f n) (allBelow n f) t) (below n f (and-right (f n) (allBelow n f) t) k) (eqb k n) refl
 
+-- a test that passes
+pub sure : (b : Bool) → T b → b ≡ true
+sure true t = refl
+sure false t = absurd t
+
 -- two tests that are the same
 pub same : (a b : Bool) → T (Bool·beq a b) → a ≡ b
 same true true t = refl

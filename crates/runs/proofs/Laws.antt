@@ -157,13 +157,10 @@ module _ (p : List ℕ) (r : Record) (offset size : ℕ) (fetch already : Bool) 
       in-size : sizeInBounds size ≡ true
       in-size = left (sizeInBounds size) _ (right (offsetInBounds offset) _ (left (offsetInBounds offset && valueInBounds size value) (not fetch) e))
 
-      in-offset : offset < 4096
-      in-offset = ltb-true offset 4096 (left (offsetInBounds offset) (valueInBounds size value) (left (offsetInBounds offset && valueInBounds size value) (not fetch) e))
-
       redirected-end : accessExits (r .controls) true offset size fetch already ≡ false → Good p r write (written (storeAt p offset size value) r offset)
       redirected-end x =
           follows
-          (kept-store p offset size value g (r .controls) in-offset (not-not (openOffset (r .controls) true offset) (none-right up5 (not (openOffset (r .controls) true offset)) x)) (none-right up4 (pastRegister offset size) (none-left up5 (not (openOffset (r .controls) true offset)) x)) in-size not8)
+          (kept-store p offset size value g (r .controls) (not-not (openOffset (r .controls) true offset) (none-right up5 (not (openOffset (r .controls) true offset)) x)) (none-right up4 (pastRegister offset size) (none-left up5 (not (openOffset (r .controls) true offset)) x)) in-size not8)
           in-size not8 (eqb offset 0x080) (virtualDelivery (r .controls) && eqb offset 0x0b0) (virtualDelivery (r .controls) && eqb offset 0x300 && selfIpi (wordAt (storeAt p offset size value) vicrLo)) (inRegister offset 0x310) refl refl refl refl
         where
           up2 : Bool
