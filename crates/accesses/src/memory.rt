@@ -1,6 +1,6 @@
 // What a memory access comes to, the table of open offsets, and what follows a redirected write.
 ghost use mathlib.Core.Path.{_≡_};
-ghost use Rattle.accesses.specs.Memory.{openTpr, openDelivery, openRead, openWrite, openOffset, pastRegister, accessExits, memoryAccess, readQualification, writeQualification, selfIpi, writeFollowing};
+ghost use Rattle.accesses.specs.Memory.{openOffset, pastRegister, accessExits, memoryAccess, readQualification, writeQualification, selfIpi, writeFollowing};
 ghost use Rattle.accesses.specs.Marks.{Marked, carriesRule};
 ghost use lib.Dec.{T};
 use processor::controls::Controls;
@@ -106,44 +106,23 @@ fn marks(offset: u16) -> u8
     0
 }
 
-fn open_tpr(offset: u16) -> bool
-    ensures { λ r. ⌜ r ≡ openTpr offset ⌝ }
-{
-    (offset % 16 == 0) & (marks(offset) / 1 % 2 == 1)
-}
-
-fn open_delivery(offset: u16) -> bool
-    ensures { λ r. ⌜ r ≡ openDelivery offset ⌝ }
-{
-    (offset % 16 == 0) & (marks(offset) / 2 % 2 == 1)
-}
-
-fn open_read(offset: u16) -> bool
-    ensures { λ r. ⌜ r ≡ openRead offset ⌝ }
-{
-    (offset % 16 < 4) & (marks(offset) / 4 % 2 == 1)
-}
-
-fn open_write(offset: u16) -> bool
-    ensures { λ r. ⌜ r ≡ openWrite offset ⌝ }
-{
-    (offset % 16 < 4) & (marks(offset) / 8 % 2 == 1)
-}
-
-// The offset may be redirected.
+// The offset may be redirected: its register has the setting's mark.
 fn open_offset(c: Controls, write: bool, offset: u16) -> bool
     ensures { λ r. ⌜ r ≡ openOffset c write offset ⌝ }
 {
+    let row = marks(offset);
+    let first = offset % 16 == 0;
+    let within = offset % 16 < 4;
     if c.apic_register_virtualization() {
         if write {
-            return open_write(offset);
+            return within & (row / 8 % 2 == 1);
         }
-        return open_read(offset);
+        return within & (row / 4 % 2 == 1);
     }
     if c.virtual_delivery() {
-        return open_delivery(offset);
+        return first & (row / 2 % 2 == 1);
     }
-    open_tpr(offset)
+    first & (row / 1 % 2 == 1)
 }
 
 // Where an access within a register of four bytes ends: past them it exits.

@@ -61,6 +61,7 @@ recordBytes b r =
     3 (truthByte (r .recognised)))
     (r .controls)
 
--- A refusal, answer 0, leaves the record's bytes; any other answer stores the record.
+-- Refused, redirected, passthrough and fault, answers 0 to 3, change nothing, so the record's bytes stay; an exit, a delivery and quiet
+-- store the record.
 unfoldable pub kept : List ℕ → ℕ → Record → List ℕ
-kept b answer r = if eqb answer 0 then b else recordBytes b r
+kept b answer r = if ltb answer 4 then b else recordBytes b r

@@ -56,11 +56,11 @@ fn record_bytes(bytes: &mut [u8], state: Record)
     controls_bytes(bytes, controls);
 }
 
-// A refusal, answer 0, leaves the record's bytes; any other answer stores the record.
+// Answers 0 to 3 change nothing, so the record's bytes stay; any other answer stores the record.
 pub fn keep(bytes: &mut [u8], answer: u32, state: Record)
     ensures { λ _. ⌜ now (bytes .exit) ≡ kept (now (bytes .entry)) answer state ⌝ }
 {
-    if answer == 0 {
+    if answer < 4 {
         return;
     }
     record_bytes(bytes, state);

@@ -5,10 +5,12 @@ use mathlib.Core.Path.{_≡_, refl}
 use mathlib.Core.Bool.{Bool, true, false, _&&_, true≢false, false≢true}
 use mathlib.Core.List.{List}
 use lib.Dec.{eqb, ltb}
+use lib.ListN.{length}
 use Rattle.processor.specs.Controls.{virtualDelivery, eoiExit, interruptWindowExiting}
 use Rattle.processor.specs.declared.controls.Controls.{Controls}
 use Rattle.processor.specs.declared.controls.Record.{Record}
 use Rattle.events.specs.Answers.{Numbers, numbers}
+use Rattle.events.specs.Events.{inBounds, allowed}
 use Rattle.rules.specs.Entry.{failingCheck, exitsAtEntry}
 use Rattle.rules.specs.Procedures.{belowThreshold}
 use Rattle.events.specs.declared.event.Event.{Event}
@@ -28,7 +30,7 @@ use Rattle.runs.specs.Memory.{readBy, memoryRead, followBy, written, wri
 use Rattle.runs.specs.Cr8Msr.{toCr8By, movToCr8, fromCr8By, movFromCr8, readMsr, writeMsrBy, writeMsr}
 use Rattle.runs.specs.Boundary.{delivery, boundaryAt, boundary}
 use Rattle.runs.specs.Step.{carriedOut, step}
-use Rattle.runs.specs.Condition1.{checkOf, Refused, CarriedOut, Answered}
+use Rattle.runs.specs.Condition1.{checkOf, Refused, changesNothing, CarriedOut, Answered}
 
 module _ (p : List ℕ) (r : Record) where
   -- redirected, passthrough, fault
@@ -194,3 +196,14 @@ module _ (p : List ℕ) (r : Record) where
     failedCheck = λ l i a n. simp (l, i, a) (refused-event e n);
     other = λ l i a n. simp (l, i, a) (carried-event e n);
   }
+
+  -- refused, redirected, passthrough and fault leave the record
+  pub record-stays : (e : Event) → changesNothing (step p r e .answer) ≡ true → step p r e .state ≡ r
+  record-stays e t = by (eqb (length p) 4096) (inBounds r e) (allowed r e) (eqb (checkOf e) 0) refl refl refl refl
+    where
+      by : (l i a n : Bool) → eqb (length p) 4096 ≡ l → inBounds r e ≡ i → allowed r e ≡ a → eqb (checkOf e) 0 ≡ n → step p r e .state ≡ r
+      by false i a n el ei ea en = answered e .wrongLength el .state
+      by true false a n el ei ea en = answered e .malformed el ei .state
+      by true true false n el ei ea en = answered e .wrongMode el ei ea .state
+      by true true true false el ei ea en = answered e .failedCheck el ei ea en .state
+      by true true true true el ei ea en = answered e .other el ei ea en .state t

@@ -1,5 +1,5 @@
 -- `capi::records::keep` meets its contract: code and definition take the same cases. Assumes nothing.
-use borrow.Author.Tests.{eq-eqb, ne-eqb}
+use borrow.Author.Tests.{lt-ltb, le-ltb}
 use Rattle.capi.specs.Records.{kept}
 use borrow.Author.Needs.{needs}
 use Rattle.capi.proofs.records.keep.Statement.{statement}
@@ -7,7 +7,7 @@ use Rattle.capi.proofs.records.keep.Tie as tie
 
 returns : tie.Need-returns
 unfolding kept
-returns c = simp (eq-eqb _ _ (c .if1 .taken))
+returns c = simp (lt-ltb _ _ (c .if1 .taken))
 
 record-bytes-requires : tie.Need-record-bytes-requires
 record-bytes-requires c κs = tt
@@ -17,7 +17,7 @@ same-length c = search needs
 
 returns-2 : tie.Need-returns-2
 unfolding kept
-returns-2 c = simp (ne-eqb _ _ (c .before .before .before .before .if1 .left), ← (c .before .before .record-bytes .ensures))
+returns-2 c = simp (le-ltb _ _ (c .before .before .before .before .if1 .left), ← (c .before .before .record-bytes .ensures))
 
 pub keep-spec : {M : Type 1} → statement M
 keep-spec = tie.close (tie.spec returns record-bytes-requires same-length returns-2)
