@@ -1,6 +1,6 @@
 -- One event as bytes: exactly 48, little-endian. A field that the kind does not name is ignored.
 use Prim.Native.Nat.{ℕ, _%_}
-use mathlib.Core.Bool.{Bool, not, _&&_, _||_}
+use mathlib.Core.Bool.{Bool, true, false, _&&_}
 use mathlib.Core.List.{List}
 use lib.Dec.{eqb, ltb}
 use Rattle.processor.specs.Logic.{if_then_else_, bit}
@@ -28,31 +28,24 @@ numberOf e = wordAt e 4
 abbrev pub valueOf : List ℕ → ℕ
 valueOf e = longAt e 8
 
--- 2 memory read, 3 memory write
-abbrev pub isMemory : ℕ → Bool
-isMemory kind = eqb kind 2 || eqb kind 3
+-- memory: two flags bits, and an offset that fits 16 bits
+unfoldable pub memoryReadable : List ℕ → Bool
+memoryReadable e = ltb (flagsOf e) 4 && ltb (numberOf e) 0x1_0000
 
--- 1 to 9
-abbrev pub kindReadable : ℕ → Bool
-kindReadable kind = ltb 0 kind && ltb kind 10
-
--- no bit that the kind does not name: two bits of a memory access, three of a boundary
-abbrev pub flagsReadable : ℕ → ℕ → Bool
-flagsReadable kind flags = (not (isMemory kind) || ltb flags 4) && (not (eqb kind 8) || ltb flags 8)
-
--- a memory offset and a requested vector fit 16 bits
-abbrev pub numberReadable : ℕ → ℕ → Bool
-numberReadable kind number = not (isMemory kind || eqb kind 9) || ltb number 0x1_0000
-
--- a CR8 value fits 8 bits
-abbrev pub valueReadable : ℕ → ℕ → Bool
-valueReadable kind value = not (eqb kind 4) || ltb value 0x100
-
--- every field is such that the model's event can hold it
+-- Kinds 1 to 9, and every field such that the model's event can hold it: a CR8 value fits 8 bits, a boundary has three flags bits, a
+-- requested vector fits 16 bits.
 unfoldable pub eventReadable : List ℕ → Bool
 eventReadable e =
-    kindReadable (kindOf e) && flagsReadable (kindOf e) (flagsOf e) &&
-    numberReadable (kindOf e) (numberOf e) && valueReadable (kindOf e) (valueOf e)
+    if eqb (kindOf e) 1 then true
+    else if eqb (kindOf e) 2 then memoryReadable e
+    else if eqb (kindOf e) 3 then memoryReadable e
+    else if eqb (kindOf e) 4 then ltb (valueOf e) 0x100
+    else if eqb (kindOf e) 5 then true
+    else if eqb (kindOf e) 6 then true
+    else if eqb (kindOf e) 7 then true
+    else if eqb (kindOf e) 8 then ltb (flagsOf e) 8
+    else if eqb (kindOf e) 9 then ltb (numberOf e) 0x1_0000
+    else false
 
 -- memory: number is the offset; flags bit 0 fetch, bit 1 already virtualised
 unfoldable pub memoryReadOf : List ℕ → Event

@@ -1,6 +1,6 @@
 // One event as 48 bytes.
 ghost use mathlib.Core.Path.{_≡_};
-ghost use Rattle.capi.specs.Events.{isMemory, kindReadable, flagsReadable, numberReadable, valueReadable, eventReadable, memoryReadOf, memoryWriteOf, toCr8Of, wrmsrOf, boundaryOf, requestOf, eventOf};
+ghost use Rattle.capi.specs.Events.{memoryReadable, eventReadable, memoryReadOf, memoryWriteOf, toCr8Of, wrmsrOf, boundaryOf, requestOf, eventOf};
 use crate::controls::controls_of;
 use events::event::Event;
 use page::bytes::byte_at;
@@ -19,52 +19,29 @@ const NUMBER: u32 = 4;
 
 const VALUE: u16 = 8;
 
-// A memory read or a memory write.
-fn is_memory(kind: u8) -> bool
-    ensures { λ r. ⌜ r ≡ isMemory kind ⌝ }
+// No bit that a memory access does not name, and an offset that fits 16 bits.
+fn memory_readable(event: &[u8]) -> bool
+    ensures { λ r. ⌜ r ≡ memoryReadable (now (event .entry)) ⌝ }
 {
-    (kind == 2) | (kind == 3)
+    (byte_at(event, FLAGS) < 4) & (word_at(event, NUMBER) < 0x1_0000)
 }
 
-fn kind_readable(kind: u8) -> bool
-    ensures { λ r. ⌜ r ≡ kindReadable kind ⌝ }
-{
-    (0 < kind) & (kind < 10)
-}
-
-// No bit that the kind does not name.
-fn flags_readable(kind: u8, flags: u8) -> bool
-    ensures { λ r. ⌜ r ≡ flagsReadable kind flags ⌝ }
-{
-    (!is_memory(kind) | (flags < 4)) & (!(kind == 8) | (flags < 8))
-}
-
-// A memory offset and a requested vector fit 16 bits.
-fn number_readable(kind: u8, number: u32) -> bool
-    ensures { λ r. ⌜ r ≡ numberReadable kind number ⌝ }
-{
-    !(is_memory(kind) | (kind == 9)) | (number < 0x1_0000)
-}
-
-// A CR8 value fits 8 bits.
-fn value_readable(kind: u8, value: u64) -> bool
-    ensures { λ r. ⌜ r ≡ valueReadable kind value ⌝ }
-{
-    !(kind == 4) | (value < 0x100)
-}
-
-// Every field is such that the model's event can hold it.
+// Kinds 1 to 9, and every field such that the model's event can hold it.
 pub fn event_readable(event: &[u8]) -> bool
     ensures { λ r. ⌜ r ≡ eventReadable (now (event .entry)) ⌝ }
 {
-    let kind = byte_at(event, KIND);
-    let flags = byte_at(event, FLAGS);
-    let number = word_at(event, NUMBER);
-    let value = long_at(event, VALUE);
-    kind_readable(kind)
-        & flags_readable(kind, flags)
-        & number_readable(kind, number)
-        & value_readable(kind, value)
+    match byte_at(event, KIND) {
+        1 => true,
+        2 => memory_readable(event),
+        3 => memory_readable(event),
+        4 => long_at(event, VALUE) < 0x100,
+        5 => true,
+        6 => true,
+        7 => true,
+        8 => byte_at(event, FLAGS) < 8,
+        9 => word_at(event, NUMBER) < 0x1_0000,
+        _ => false,
+    }
 }
 
 fn memory_read_of(event: &[u8]) -> Event

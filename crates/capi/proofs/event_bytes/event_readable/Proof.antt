@@ -1,4 +1,5 @@
 -- `capi::event_bytes::event_readable` meets its contract: code and definition take the same cases. Assumes nothing.
+use borrow.Author.Tests.{ne-eqb}
 use Rattle.capi.specs.Events.{eventReadable}
 use Rattle.capi.proofs.event_bytes.event_readable.Statement.{statement}
 use Rattle.capi.proofs.event_bytes.event_readable.Tie as tie
@@ -6,45 +7,90 @@ use Rattle.capi.proofs.event_bytes.event_readable.Tie as tie
 byte-at-requires : tie.Need-byte-at-requires
 byte-at-requires c κs = tt
 
+memory-readable-requires : tie.Need-memory-readable-requires
+memory-readable-requires c κs = tt
+
+memory-readable-requires-2 : tie.Need-memory-readable-requires-2
+memory-readable-requires-2 c κs = tt
+
+long-at-requires : tie.Need-long-at-requires
+long-at-requires c κs = tt
+
 byte-at-requires-2 : tie.Need-byte-at-requires-2
 byte-at-requires-2 c κs = tt
 
 word-at-requires : tie.Need-word-at-requires
 word-at-requires c κs = tt
 
-long-at-requires : tie.Need-long-at-requires
-long-at-requires c κs = tt
-
-kind-readable-requires : tie.Need-kind-readable-requires
-kind-readable-requires c κs = tt
-
-flags-readable-requires : tie.Need-flags-readable-requires
-flags-readable-requires c κs = tt
-
-number-readable-requires : tie.Need-number-readable-requires
-number-readable-requires c κs = tt
-
-value-readable-requires : tie.Need-value-readable-requires
-value-readable-requires c κs = tt
-
 returns : tie.Need-returns
 unfolding eventReadable
-returns c =
-    let at-flags-readable = c .before .before in
-    let at-long-at = at-flags-readable .before .before in
-    let at-byte-at2 = at-long-at .before .before in
-    simp (← (at-byte-at2 .before .byte-at .ensures), ← (at-byte-at2 .byte-at2 .ensures), ← (at-long-at .before .word-at .ensures), ← (at-long-at .long-at .ensures), ← (at-flags-readable .before .kind-readable .ensures), ← (at-flags-readable .flags-readable .ensures), ← (c .before .number-readable .ensures), ← (c .value-readable .ensures))
+returns c = simp (← (c .before .byte-at .ensures), c .match .keys1)
+
+returns-2 : tie.Need-returns-2
+unfolding eventReadable
+returns-2 c = simp (← (c .before .before .byte-at .ensures), c .before .match .keys2, ← (c .memory-readable .ensures))
+
+returns-3 : tie.Need-returns-3
+unfolding eventReadable
+returns-3 c = simp (← (c .before .before .byte-at .ensures), c .before .match .keys3, ← (c .memory-readable2 .ensures))
+
+returns-4 : tie.Need-returns-4
+unfolding eventReadable
+returns-4 c = simp (← (c .before .before .byte-at .ensures), c .before .match .keys4, ← (c .long-at .ensures))
+
+returns-5 : tie.Need-returns-5
+unfolding eventReadable
+returns-5 c = simp (← (c .before .byte-at .ensures), c .match .keys5)
+
+returns-6 : tie.Need-returns-6
+unfolding eventReadable
+returns-6 c = simp (← (c .before .byte-at .ensures), c .match .keys6)
+
+returns-7 : tie.Need-returns-7
+unfolding eventReadable
+returns-7 c = simp (← (c .before .byte-at .ensures), c .match .keys7)
+
+returns-8 : tie.Need-returns-8
+unfolding eventReadable
+returns-8 c = simp (← (c .before .before .byte-at .ensures), c .before .match .keys8, ← (c .byte-at2 .ensures))
+
+returns-9 : tie.Need-returns-9
+unfolding eventReadable
+returns-9 c = simp (← (c .before .before .byte-at .ensures), c .before .match .keys9, ← (c .word-at .ensures))
+
+returns-10 : tie.Need-returns-10
+unfolding eventReadable
+returns-10 c =
+    simp (
+      ← (c .before .byte-at .ensures),
+      ne-eqb _ _ (c .match .rest .0 .0 .0 .0 .0 .0 .0 .0 .1),
+      ne-eqb _ _ (c .match .rest .0 .0 .0 .0 .0 .0 .0 .1),
+      ne-eqb _ _ (c .match .rest .0 .0 .0 .0 .0 .0 .1),
+      ne-eqb _ _ (c .match .rest .0 .0 .0 .0 .0 .1),
+      ne-eqb _ _ (c .match .rest .0 .0 .0 .0 .1),
+      ne-eqb _ _ (c .match .rest .0 .0 .0 .1),
+      ne-eqb _ _ (c .match .rest .0 .0 .1),
+      ne-eqb _ _ (c .match .rest .0 .1),
+      ne-eqb _ _ (c .match .rest .1),
+    )
 
 pub event-readable-spec : {M : Type 1} → statement M
 event-readable-spec =
     tie.close
     (tie.spec
     byte-at-requires
+    memory-readable-requires
+    memory-readable-requires-2
+    long-at-requires
     byte-at-requires-2
     word-at-requires
-    long-at-requires
-    kind-readable-requires
-    flags-readable-requires
-    number-readable-requires
-    value-readable-requires
-    returns)
+    returns
+    returns-2
+    returns-3
+    returns-4
+    returns-5
+    returns-6
+    returns-7
+    returns-8
+    returns-9
+    returns-10)
