@@ -3,7 +3,11 @@ ghost use mathlib.Core.Path.{_≡_};
 ghost use Rattle.accesses.specs.Memory.{openOffset, pastRegister, accessExits, memoryAccess, readQualification, writeQualification, selfIpi, writeFollowing};
 ghost use Rattle.accesses.specs.Marks.{Marked, carriesRule};
 ghost use lib.Dec.{T};
+use processor::controls::APIC_REGISTER_VIRTUALIZATION;
 use processor::controls::Controls;
+use processor::controls::USE_TPR_SHADOW;
+use processor::controls::VIRTUAL_DELIVERY;
+use processor::controls::VIRTUALIZE_APIC_ACCESSES;
 
 pub enum Access {
     Passthrough,
@@ -113,13 +117,13 @@ fn open_offset(c: Controls, write: bool, offset: u16) -> bool
     let row = marks(offset);
     let first = offset % 16 == 0;
     let within = offset % 16 < 4;
-    if c.apic_register_virtualization() {
+    if c.is_on(APIC_REGISTER_VIRTUALIZATION) {
         if write {
             return within & (row / 8 % 2 == 1);
         }
         return within & (row / 4 % 2 == 1);
     }
-    if c.virtual_delivery() {
+    if c.is_on(VIRTUAL_DELIVERY) {
         return first & (row / 2 % 2 == 1);
     }
     first & (row / 1 % 2 == 1)
@@ -135,7 +139,7 @@ fn past_register(offset: u16, size: u8) -> bool
 fn access_exits(c: Controls, write: bool, offset: u16, size: u8, fetch: bool, already: bool) -> bool
     ensures { λ r. ⌜ r ≡ accessExits c write offset size fetch already ⌝ }
 {
-    !c.use_tpr_shadow()
+    !c.is_on(USE_TPR_SHADOW)
         | fetch
         | (size == 8)
         | already
@@ -154,7 +158,7 @@ pub fn memory_access(
 ) -> Access
     ensures { λ r. ⌜ r ≡ memoryAccess c write offset size fetch already ⌝ }
 {
-    if !c.virtualize_apic_accesses() {
+    if !c.is_on(VIRTUALIZE_APIC_ACCESSES) {
         return Access::Passthrough;
     }
     if access_exits(c, write, offset, size, fetch, already) {
@@ -198,7 +202,7 @@ fn self_ipi(icr: u32) -> bool
 pub fn write_following(c: Controls, offset: u16, icr: u32) -> Following
     ensures { λ r. ⌜ r ≡ writeFollowing c offset icr ⌝ }
 {
-    let delivery = c.virtual_delivery();
+    let delivery = c.is_on(VIRTUAL_DELIVERY);
     if offset == 0x080 {
         return Following::Tpr;
     }

@@ -2,7 +2,10 @@
 ghost use mathlib.Core.Path.{_≡_};
 ghost use Rattle.instructions.specs.Cr8Msr.{cr8Access, toCr8, fromCr8, toCr8Qualification, fromCr8Qualification};
 use accesses::memory::Access;
+use processor::controls::CR8_LOAD_EXITING;
+use processor::controls::CR8_STORE_EXITING;
 use processor::controls::Controls;
+use processor::controls::USE_TPR_SHADOW;
 
 fn cr8_access(exiting: bool, c: Controls) -> Access
     ensures { λ r. ⌜ r ≡ cr8Access exiting c ⌝ }
@@ -10,7 +13,7 @@ fn cr8_access(exiting: bool, c: Controls) -> Access
     if exiting {
         return Access::Exit;
     }
-    if !c.use_tpr_shadow() {
+    if !c.is_on(USE_TPR_SHADOW) {
         return Access::Passthrough;
     }
     Access::Redirected
@@ -19,13 +22,13 @@ fn cr8_access(exiting: bool, c: Controls) -> Access
 pub fn to_cr8(c: Controls) -> Access
     ensures { λ r. ⌜ r ≡ toCr8 c ⌝ }
 {
-    cr8_access(c.cr8_load_exiting(), c)
+    cr8_access(c.is_on(CR8_LOAD_EXITING), c)
 }
 
 pub fn from_cr8(c: Controls) -> Access
     ensures { λ r. ⌜ r ≡ fromCr8 c ⌝ }
 {
-    cr8_access(c.cr8_store_exiting(), c)
+    cr8_access(c.is_on(CR8_STORE_EXITING), c)
 }
 
 pub fn to_cr8_qualification(register: u8) -> u64

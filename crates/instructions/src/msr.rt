@@ -1,7 +1,10 @@
 // What RDMSR and WRMSR come to.
 ghost use mathlib.Core.Path.{_≡_};
 ghost use Rattle.instructions.specs.Cr8Msr.{rdmsrRedirected, msrOffset, wrmsrHandled, wrmsrFaults, wrmsrFollowing, wrmsr};
+use processor::controls::APIC_REGISTER_VIRTUALIZATION;
 use processor::controls::Controls;
+use processor::controls::VIRTUAL_DELIVERY;
+use processor::controls::VIRTUALIZE_X2APIC_MODE;
 
 // What follows a WRMSR: nothing is stored in the first two cases.
 pub enum MsrWrite {
@@ -16,10 +19,10 @@ pub enum MsrWrite {
 pub fn rdmsr_redirected(c: Controls, index: u32) -> bool
     ensures { λ r. ⌜ r ≡ rdmsrRedirected c index ⌝ }
 {
-    c.virtualize_x2apic_mode()
+    c.is_on(VIRTUALIZE_X2APIC_MODE)
         & (0x800 <= index)
         & (index <= 0x8ff)
-        & (c.apic_register_virtualization() | (index == 0x808))
+        & (c.is_on(APIC_REGISTER_VIRTUALIZATION) | (index == 0x808))
 }
 
 // The offset on the page that an index stands for.
@@ -32,8 +35,8 @@ pub fn msr_offset(index: u32) -> u16
 fn wrmsr_handled(c: Controls, index: u32) -> bool
     ensures { λ r. ⌜ r ≡ wrmsrHandled c index ⌝ }
 {
-    c.virtualize_x2apic_mode()
-        & ((index == 0x808) | c.virtual_delivery() & ((index == 0x80b) | (index == 0x83f)))
+    c.is_on(VIRTUALIZE_X2APIC_MODE)
+        & ((index == 0x808) | c.is_on(VIRTUAL_DELIVERY) & ((index == 0x80b) | (index == 0x83f)))
 }
 
 fn wrmsr_faults(index: u32, value: u64) -> bool

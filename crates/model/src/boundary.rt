@@ -9,6 +9,7 @@ use crate::procedures::VIRR;
 use crate::procedures::VISR;
 use crate::procedures::VPPR;
 use events::answer::Outcome;
+use processor::controls::INTERRUPT_WINDOW_EXITING;
 use processor::controls::Record;
 use registers::vectors::highest_vector;
 use registers::vectors::put_vector;
@@ -40,7 +41,7 @@ fn boundary_at(page: &mut [u8], record: Record, is_open: bool) -> Outcome
     ensures { λ r. ⌜ Leaves (boundaryAt «is_open» (now (page .entry)) «record») r (now (page .exit)) ⌝ }
 {
     let controls = record.controls;
-    if is_open & controls.interrupt_window_exiting() {
+    if is_open & controls.is_on(INTERRUPT_WINDOW_EXITING) {
         return exit(record, 7, 0);
     }
     if is_open & record.recognised {

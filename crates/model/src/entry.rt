@@ -13,6 +13,7 @@ use events::answer::Outcome;
 use page::bytes::byte_at;
 use processor::controls::Controls;
 use processor::controls::Record;
+use processor::controls::VIRTUAL_DELIVERY;
 use registers::vectors::put_vector;
 use rules::entry::exits_at_entry;
 use rules::entry::failing_check;
@@ -21,7 +22,7 @@ fn entered(page: &mut [u8], record: Record) -> Outcome
     ensures { λ r. ⌜ Leaves (enteredOf (now (page .entry)) «record») r (now (page .exit)) ⌝ }
 {
     let controls = record.controls;
-    if controls.virtual_delivery() {
+    if controls.is_on(VIRTUAL_DELIVERY) {
         ppr_virtualization(page, record);
         return evaluated_quiet(page, record);
     }

@@ -7,6 +7,7 @@ use crate::outcome::quiet;
 use events::answer::Outcome;
 use page::bytes::byte_at;
 use processor::controls::Record;
+use processor::controls::VIRTUAL_DELIVERY;
 use registers::vectors::highest_vector;
 use registers::vectors::put_vector;
 use rules::procedures::below_threshold;
@@ -51,7 +52,7 @@ pub fn tpr_virtualization(page: &mut [u8], record: Record) -> Outcome
     ensures { λ r. ⌜ Leaves (tprVirtualization (now (page .entry)) «record») r (now (page .exit)) ⌝ }
 {
     let controls = record.controls;
-    if controls.virtual_delivery() {
+    if controls.is_on(VIRTUAL_DELIVERY) {
         ppr_virtualization(page, record);
         return evaluated_quiet(page, record);
     }

@@ -6,42 +6,46 @@ use Rattle.processor.specs.Logic.{if_then_else_, bit}
 use Rattle.processor.specs.declared.controls.Controls.{Controls}
 use Rattle.processor.specs.declared.controls.Record.{Record}
 
+-- The control of bit k is on.
+abbrev pub isOn : Controls → ℕ → Bool
+isOn c k = bit (c .flags) k
+
 -- Controls, with the bit numbers used when they are stored.
 -- 0 use TPR shadow
 abbrev pub useTprShadow : Controls → Bool
-useTprShadow c = bit (c .flags) 0
+useTprShadow c = isOn c 0
 
 -- 1 virtualize APIC accesses
 abbrev pub virtualizeApicAccesses : Controls → Bool
-virtualizeApicAccesses c = bit (c .flags) 1
+virtualizeApicAccesses c = isOn c 1
 
 -- 2 virtualize x2APIC mode
 abbrev pub virtualizeX2apicMode : Controls → Bool
-virtualizeX2apicMode c = bit (c .flags) 2
+virtualizeX2apicMode c = isOn c 2
 
 -- 3 APIC-register virtualization
 abbrev pub apicRegisterVirtualization : Controls → Bool
-apicRegisterVirtualization c = bit (c .flags) 3
+apicRegisterVirtualization c = isOn c 3
 
 -- 4 virtual-interrupt delivery (VID)
 abbrev pub virtualDelivery : Controls → Bool
-virtualDelivery c = bit (c .flags) 4
+virtualDelivery c = isOn c 4
 
 -- 5 external-interrupt exiting
 abbrev pub externalInterruptExiting : Controls → Bool
-externalInterruptExiting c = bit (c .flags) 5
+externalInterruptExiting c = isOn c 5
 
 -- 6 interrupt-window exiting
 abbrev pub interruptWindowExiting : Controls → Bool
-interruptWindowExiting c = bit (c .flags) 6
+interruptWindowExiting c = isOn c 6
 
 -- 7 CR8-load exiting
 abbrev pub cr8LoadExiting : Controls → Bool
-cr8LoadExiting c = bit (c .flags) 7
+cr8LoadExiting c = isOn c 7
 
 -- 8 CR8-store exiting
 abbrev pub cr8StoreExiting : Controls → Bool
-cr8StoreExiting c = bit (c .flags) 8
+cr8StoreExiting c = isOn c 8
 
 -- Where the flags are held in a number, its other bits must be 0.
 abbrev pub flagsInBounds : Controls → Bool

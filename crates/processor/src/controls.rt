@@ -1,6 +1,26 @@
 // The processor record and the controls in force.
 ghost use mathlib.Core.Path.{_≡_};
-ghost use Rattle.processor.specs.Controls.{useTprShadow, virtualizeApicAccesses, virtualizeX2apicMode, apicRegisterVirtualization, virtualDelivery, externalInterruptExiting, interruptWindowExiting, cr8LoadExiting, cr8StoreExiting, flagsInBounds, eoiExitWord, eoiExit, noControls, fresh};
+ghost use Prim.Native.Nat.{_%_};
+ghost use Rattle.processor.specs.Controls.{isOn, flagsInBounds, eoiExitWord, eoiExit, noControls, fresh};
+
+// The controls, each by the bit at which it is stored.
+pub const USE_TPR_SHADOW: u8 = 0;
+
+pub const VIRTUALIZE_APIC_ACCESSES: u8 = 1;
+
+pub const VIRTUALIZE_X2APIC_MODE: u8 = 2;
+
+pub const APIC_REGISTER_VIRTUALIZATION: u8 = 3;
+
+pub const VIRTUAL_DELIVERY: u8 = 4;
+
+pub const EXTERNAL_INTERRUPT_EXITING: u8 = 5;
+
+pub const INTERRUPT_WINDOW_EXITING: u8 = 6;
+
+pub const CR8_LOAD_EXITING: u8 = 7;
+
+pub const CR8_STORE_EXITING: u8 = 8;
 
 pub struct Controls {
     pub flags: u64,
@@ -20,58 +40,12 @@ pub struct Record {
 }
 
 impl Controls {
-    pub fn use_tpr_shadow(self) -> bool
-        ensures { λ r. ⌜ r ≡ useTprShadow self ⌝ }
+    // The control of a bit is on; bits count mod 64.
+    pub fn is_on(self, control: u8) -> bool
+        ensures { λ r. ⌜ r ≡ isOn self (control % 64) ⌝ }
     {
-        self.flags / 1 % 2 == 1
-    }
-
-    pub fn virtualize_apic_accesses(self) -> bool
-        ensures { λ r. ⌜ r ≡ virtualizeApicAccesses self ⌝ }
-    {
-        self.flags / 2 % 2 == 1
-    }
-
-    pub fn virtualize_x2apic_mode(self) -> bool
-        ensures { λ r. ⌜ r ≡ virtualizeX2apicMode self ⌝ }
-    {
-        self.flags / 4 % 2 == 1
-    }
-
-    pub fn apic_register_virtualization(self) -> bool
-        ensures { λ r. ⌜ r ≡ apicRegisterVirtualization self ⌝ }
-    {
-        self.flags / 8 % 2 == 1
-    }
-
-    pub fn virtual_delivery(self) -> bool
-        ensures { λ r. ⌜ r ≡ virtualDelivery self ⌝ }
-    {
-        self.flags / 16 % 2 == 1
-    }
-
-    pub fn external_interrupt_exiting(self) -> bool
-        ensures { λ r. ⌜ r ≡ externalInterruptExiting self ⌝ }
-    {
-        self.flags / 32 % 2 == 1
-    }
-
-    pub fn interrupt_window_exiting(self) -> bool
-        ensures { λ r. ⌜ r ≡ interruptWindowExiting self ⌝ }
-    {
-        self.flags / 64 % 2 == 1
-    }
-
-    pub fn cr8_load_exiting(self) -> bool
-        ensures { λ r. ⌜ r ≡ cr8LoadExiting self ⌝ }
-    {
-        self.flags / 128 % 2 == 1
-    }
-
-    pub fn cr8_store_exiting(self) -> bool
-        ensures { λ r. ⌜ r ≡ cr8StoreExiting self ⌝ }
-    {
-        self.flags / 256 % 2 == 1
+        let at = control % 64;
+        (self.flags >> at) % 2 == 1
     }
 
     // The flags have no bit above bit 8.

@@ -1,31 +1,39 @@
 // The entry checks, and when exit 43 follows an entry at once.
 ghost use mathlib.Core.Path.{_≡_};
 ghost use Rattle.rules.specs.Entry.{check1, check2, check3, check4, failingCheck, exitsAtEntry};
+use processor::controls::APIC_REGISTER_VIRTUALIZATION;
 use processor::controls::Controls;
+use processor::controls::EXTERNAL_INTERRUPT_EXITING;
+use processor::controls::USE_TPR_SHADOW;
+use processor::controls::VIRTUAL_DELIVERY;
+use processor::controls::VIRTUALIZE_APIC_ACCESSES;
+use processor::controls::VIRTUALIZE_X2APIC_MODE;
 
 fn check_1(c: Controls) -> bool
     ensures { λ r. ⌜ r ≡ check1 c ⌝ }
 {
-    !c.use_tpr_shadow()
-        & (c.virtualize_x2apic_mode() | c.apic_register_virtualization() | c.virtual_delivery())
+    !c.is_on(USE_TPR_SHADOW)
+        & (c.is_on(VIRTUALIZE_X2APIC_MODE)
+            | c.is_on(APIC_REGISTER_VIRTUALIZATION)
+            | c.is_on(VIRTUAL_DELIVERY))
 }
 
 fn check_2(c: Controls) -> bool
     ensures { λ r. ⌜ r ≡ check2 c ⌝ }
 {
-    c.virtualize_apic_accesses() & c.virtualize_x2apic_mode()
+    c.is_on(VIRTUALIZE_APIC_ACCESSES) & c.is_on(VIRTUALIZE_X2APIC_MODE)
 }
 
 fn check_3(c: Controls) -> bool
     ensures { λ r. ⌜ r ≡ check3 c ⌝ }
 {
-    c.virtual_delivery() & !c.external_interrupt_exiting()
+    c.is_on(VIRTUAL_DELIVERY) & !c.is_on(EXTERNAL_INTERRUPT_EXITING)
 }
 
 fn check_4(c: Controls) -> bool
     ensures { λ r. ⌜ r ≡ check4 c ⌝ }
 {
-    c.use_tpr_shadow() & !c.virtual_delivery() & (15 < c.threshold)
+    c.is_on(USE_TPR_SHADOW) & !c.is_on(VIRTUAL_DELIVERY) & (15 < c.threshold)
 }
 
 // The first failing check, or 0.
@@ -51,5 +59,5 @@ pub fn failing_check(c: Controls) -> u8
 pub fn exits_at_entry(c: Controls, vtpr: u8) -> bool
     ensures { λ r. ⌜ r ≡ exitsAtEntry c vtpr ⌝ }
 {
-    c.use_tpr_shadow() & !c.virtual_delivery() & (((vtpr / 16) as u32) < c.threshold)
+    c.is_on(USE_TPR_SHADOW) & !c.is_on(VIRTUAL_DELIVERY) & (((vtpr / 16) as u32) < c.threshold)
 }

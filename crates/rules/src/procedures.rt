@@ -2,6 +2,7 @@
 ghost use mathlib.Core.Path.{_≡_};
 ghost use Rattle.rules.specs.Procedures.{class, lowCleared, ppr, belowThreshold, evaluated, larger, openBoundary};
 use processor::controls::Controls;
+use processor::controls::INTERRUPT_WINDOW_EXITING;
 
 // A vector's class.
 pub fn class_of(vector: u8) -> u8
@@ -38,7 +39,7 @@ pub fn below_threshold(c: Controls, vtpr: u8) -> bool
 pub fn evaluates(c: Controls, rvi: u8, vppr: u8) -> bool
     ensures { λ r. ⌜ r ≡ evaluated c rvi vppr ⌝ }
 {
-    !c.interrupt_window_exiting() & (vppr / 16 < rvi / 16)
+    !c.is_on(INTERRUPT_WINDOW_EXITING) & (vppr / 16 < rvi / 16)
 }
 
 // The larger of RVI and a vector.

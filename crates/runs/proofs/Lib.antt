@@ -9,4 +9,3 @@ pub mod Laws
 pub mod Ladder
 pub mod Invariant
 pub mod Theorems
-pub mod Sharp

@@ -12,4 +12,3 @@ pub mod Moves
 pub mod Settled
 pub mod History
 pub mod Condition3
-pub mod Examples

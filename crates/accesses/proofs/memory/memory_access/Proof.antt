@@ -3,25 +3,25 @@ use Rattle.accesses.specs.Memory.{memoryAccess}
 use Rattle.accesses.proofs.memory.memory_access.Statement.{statement}
 use Rattle.accesses.proofs.memory.memory_access.Tie as tie
 
-virtualize-apic-accesses-requires : tie.Need-virtualize-apic-accesses-requires
-virtualize-apic-accesses-requires c κs = tt
+is-on-requires : tie.Need-is-on-requires
+is-on-requires c κs = tt
 
 returns : tie.Need-returns
 unfolding memoryAccess
-returns c = simp (← (c .before .virtualize-apic-accesses .ensures), c .if1 .taken)
+returns c = simp (← (c .before .is-on .ensures), c .if1 .taken)
 
 access-exits-requires : tie.Need-access-exits-requires
 access-exits-requires c κs = tt
 
 returns-2 : tie.Need-returns-2
 unfolding memoryAccess
-returns-2 c = simp (← (c .before .before .before .virtualize-apic-accesses .ensures), c .before .before .if1 .left, ← (c .before .access-exits .ensures), c .if2 .taken)
+returns-2 c = simp (← (c .before .before .before .is-on .ensures), c .before .before .if1 .left, ← (c .before .access-exits .ensures), c .if2 .taken)
 
 returns-3 : tie.Need-returns-3
 unfolding memoryAccess
-returns-3 c = simp (← (c .before .before .before .virtualize-apic-accesses .ensures), c .before .before .if1 .left, ← (c .before .access-exits .ensures), c .if2 .left)
+returns-3 c = simp (← (c .before .before .before .is-on .ensures), c .before .before .if1 .left, ← (c .before .access-exits .ensures), c .if2 .left)
 
 pub memory-access-spec : {M : Type 1} → statement M
 memory-access-spec =
     tie.close
-    (tie.spec virtualize-apic-accesses-requires returns access-exits-requires returns-2 returns-3)
+    (tie.spec is-on-requires returns access-exits-requires returns-2 returns-3)

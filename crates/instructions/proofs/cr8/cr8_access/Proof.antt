@@ -7,16 +7,16 @@ returns : tie.Need-returns
 unfolding cr8Access
 returns c = simp (c .if1 .taken)
 
-use-tpr-shadow-requires : tie.Need-use-tpr-shadow-requires
-use-tpr-shadow-requires c κs = tt
+is-on-requires : tie.Need-is-on-requires
+is-on-requires c κs = tt
 
 returns-2 : tie.Need-returns-2
 unfolding cr8Access
-returns-2 c = simp (c .before .before .if1 .left, ← (c .before .use-tpr-shadow .ensures), c .if2 .taken)
+returns-2 c = simp (c .before .before .if1 .left, ← (c .before .is-on .ensures), c .if2 .taken)
 
 returns-3 : tie.Need-returns-3
 unfolding cr8Access
-returns-3 c = simp (c .before .before .if1 .left, ← (c .before .use-tpr-shadow .ensures), c .if2 .left)
+returns-3 c = simp (c .before .before .if1 .left, ← (c .before .is-on .ensures), c .if2 .left)
 
 pub cr8-access-spec : {M : Type 1} → statement M
-cr8-access-spec = tie.close (tie.spec returns use-tpr-shadow-requires returns-2 returns-3)
+cr8-access-spec = tie.close (tie.spec returns is-on-requires returns-2 returns-3)

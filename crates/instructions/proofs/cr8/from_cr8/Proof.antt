@@ -2,14 +2,14 @@
 use Rattle.instructions.proofs.cr8.from_cr8.Statement.{statement}
 use Rattle.instructions.proofs.cr8.from_cr8.Tie as tie
 
-cr8-store-exiting-requires : tie.Need-cr8-store-exiting-requires
-cr8-store-exiting-requires c κs = tt
+is-on-requires : tie.Need-is-on-requires
+is-on-requires c κs = tt
 
 cr8-access-requires : tie.Need-cr8-access-requires
 cr8-access-requires c κs = tt
 
 returns : tie.Need-returns
-returns c = simp (← (c .before .cr8-store-exiting .ensures), ← (c .cr8-access .ensures))
+returns c = simp (← (c .before .is-on .ensures), ← (c .cr8-access .ensures))
 
 pub from-cr8-spec : {M : Type 1} → statement M
-from-cr8-spec = tie.close (tie.spec cr8-store-exiting-requires cr8-access-requires returns)
+from-cr8-spec = tie.close (tie.spec is-on-requires cr8-access-requires returns)

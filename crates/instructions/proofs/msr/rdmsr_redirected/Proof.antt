@@ -2,16 +2,16 @@
 use Rattle.instructions.proofs.msr.rdmsr_redirected.Statement.{statement}
 use Rattle.instructions.proofs.msr.rdmsr_redirected.Tie as tie
 
-virtualize-x2apic-mode-requires : tie.Need-virtualize-x2apic-mode-requires
-virtualize-x2apic-mode-requires c κs = tt
+is-on-requires : tie.Need-is-on-requires
+is-on-requires c κs = tt
 
-apic-register-virtualization-requires : tie.Need-apic-register-virtualization-requires
-apic-register-virtualization-requires c κs = tt
+is-on-requires-2 : tie.Need-is-on-requires-2
+is-on-requires-2 c κs = tt
 
 returns : tie.Need-returns
-returns c = simp (← (c .before .virtualize-x2apic-mode .ensures), ← (c .apic-register-virtualization .ensures))
+returns c = simp (← (c .before .is-on .ensures), ← (c .is-on2 .ensures))
 
 pub rdmsr-redirected-spec : {M : Type 1} → statement M
 rdmsr-redirected-spec =
     tie.close
-    (tie.spec virtualize-x2apic-mode-requires apic-register-virtualization-requires returns)
+    (tie.spec is-on-requires is-on-requires-2 returns)

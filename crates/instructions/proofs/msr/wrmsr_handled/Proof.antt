@@ -2,15 +2,15 @@
 use Rattle.instructions.proofs.msr.wrmsr_handled.Statement.{statement}
 use Rattle.instructions.proofs.msr.wrmsr_handled.Tie as tie
 
-virtualize-x2apic-mode-requires : tie.Need-virtualize-x2apic-mode-requires
-virtualize-x2apic-mode-requires c κs = tt
+is-on-requires : tie.Need-is-on-requires
+is-on-requires c κs = tt
 
-virtual-delivery-requires : tie.Need-virtual-delivery-requires
-virtual-delivery-requires c κs = tt
+is-on-requires-2 : tie.Need-is-on-requires-2
+is-on-requires-2 c κs = tt
 
 returns : tie.Need-returns
-returns c = simp (← (c .before .virtualize-x2apic-mode .ensures), ← (c .virtual-delivery .ensures))
+returns c = simp (← (c .before .is-on .ensures), ← (c .is-on2 .ensures))
 
 pub wrmsr-handled-spec : {M : Type 1} → statement M
 wrmsr-handled-spec =
-    tie.close (tie.spec virtualize-x2apic-mode-requires virtual-delivery-requires returns)
+    tie.close (tie.spec is-on-requires is-on-requires-2 returns)

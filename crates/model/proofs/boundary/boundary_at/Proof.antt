@@ -4,15 +4,15 @@ use borrow.Author.Needs.{needs}
 use Rattle.model.proofs.boundary.boundary_at.Statement.{statement}
 use Rattle.model.proofs.boundary.boundary_at.Tie as tie
 
-interrupt-window-exiting-requires : tie.Need-interrupt-window-exiting-requires
-interrupt-window-exiting-requires c κs = tt
+is-on-requires : tie.Need-is-on-requires
+is-on-requires c κs = tt
 
 exit-requires : tie.Need-exit-requires
 exit-requires c κs = tt
 
 returns : tie.Need-returns
 unfolding boundaryAt
-returns c = simp (← (c .before .before .interrupt-window-exiting .ensures), c .before .if1 .taken) (c .exit .ensures _)
+returns c = simp (← (c .before .before .is-on .ensures), c .before .if1 .taken) (c .exit .ensures _)
 
 delivery-requires : tie.Need-delivery-requires
 delivery-requires c κs = tt
@@ -26,20 +26,20 @@ returns-2 c =
     let at-delivery = c .before .before in
     let at-if2 = at-delivery .before .before in
     let at-if1 = at-if2 .before .before in
-    simp (← (at-if1 .before .interrupt-window-exiting .ensures), at-if1 .if1 .left, at-if2 .if2 .taken) (at-delivery .delivery .ensures)
+    simp (← (at-if1 .before .is-on .ensures), at-if1 .if1 .left, at-if2 .if2 .taken) (at-delivery .delivery .ensures)
 
 quiet-requires : tie.Need-quiet-requires
 quiet-requires c κs = tt
 
 returns-3 : tie.Need-returns-3
 unfolding boundaryAt
-returns-3 c = simp (← (c .before .before .before .before .interrupt-window-exiting .ensures), c .before .before .before .if1 .left, c .before .if2 .left) (c .quiet .ensures _)
+returns-3 c = simp (← (c .before .before .before .before .is-on .ensures), c .before .before .before .if1 .left, c .before .if2 .left) (c .quiet .ensures _)
 
 pub boundary-at-spec : {M : Type 1} → statement M
 boundary-at-spec =
     tie.close
     (tie.spec
-    interrupt-window-exiting-requires
+    is-on-requires
     exit-requires
     returns
     delivery-requires

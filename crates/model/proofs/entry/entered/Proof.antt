@@ -4,8 +4,8 @@ use borrow.Author.Needs.{needs}
 use Rattle.model.proofs.entry.entered.Statement.{statement}
 use Rattle.model.proofs.entry.entered.Tie as tie
 
-virtual-delivery-requires : tie.Need-virtual-delivery-requires
-virtual-delivery-requires c κs = tt
+is-on-requires : tie.Need-is-on-requires
+is-on-requires c κs = tt
 
 ppr-virtualization-requires : tie.Need-ppr-virtualization-requires
 ppr-virtualization-requires c κs = tt
@@ -21,20 +21,20 @@ unfolding entered
 returns c =
     let at-ppr-virtualization = c .before .before .before .before in
     let at-if1 = at-ppr-virtualization .before .before in
-    simp (← (at-if1 .before .virtual-delivery .ensures), at-if1 .if1 .taken, ← (at-ppr-virtualization .ppr-virtualization .ensures)) (c .evaluated-quiet .ensures)
+    simp (← (at-if1 .before .is-on .ensures), at-if1 .if1 .taken, ← (at-ppr-virtualization .ppr-virtualization .ensures)) (c .evaluated-quiet .ensures)
 
 quiet-requires : tie.Need-quiet-requires
 quiet-requires c κs = tt
 
 returns-2 : tie.Need-returns-2
 unfolding entered
-returns-2 c = simp (← (c .before .before .virtual-delivery .ensures), c .before .if1 .left) (c .quiet .ensures _)
+returns-2 c = simp (← (c .before .before .is-on .ensures), c .before .if1 .left) (c .quiet .ensures _)
 
 pub entered-spec : {M : Type 1} → statement M
 entered-spec =
     tie.close
     (tie.spec
-    virtual-delivery-requires
+    is-on-requires
     ppr-virtualization-requires
     evaluated-quiet-requires
     same-length

@@ -4,8 +4,8 @@ use borrow.Author.Needs.{needs}
 use Rattle.model.proofs.procedures.tpr_virtualization.Statement.{statement}
 use Rattle.model.proofs.procedures.tpr_virtualization.Tie as tie
 
-virtual-delivery-requires : tie.Need-virtual-delivery-requires
-virtual-delivery-requires c κs = tt
+is-on-requires : tie.Need-is-on-requires
+is-on-requires c κs = tt
 
 ppr-virtualization-requires : tie.Need-ppr-virtualization-requires
 ppr-virtualization-requires c κs = tt
@@ -21,7 +21,7 @@ unfolding tprVirtualization
 returns c =
     let at-ppr-virtualization = c .before .before .before .before in
     let at-if1 = at-ppr-virtualization .before .before in
-    simp (← (at-if1 .before .virtual-delivery .ensures), at-if1 .if1 .taken, ← (at-ppr-virtualization .ppr-virtualization .ensures)) (c .evaluated-quiet .ensures)
+    simp (← (at-if1 .before .is-on .ensures), at-if1 .if1 .taken, ← (at-ppr-virtualization .ppr-virtualization .ensures)) (c .evaluated-quiet .ensures)
 
 byte-at-requires : tie.Need-byte-at-requires
 byte-at-requires c κs = tt
@@ -40,7 +40,7 @@ unfolding tprVirtualization
 returns-2 c =
     let at-below-threshold = c .before .before in
     let at-if1 = at-below-threshold .before .before .before in
-    simp (← (at-if1 .before .virtual-delivery .ensures), at-if1 .if1 .left, ← (at-below-threshold .before .byte-at .ensures), ← (at-below-threshold .below-threshold .ensures), c .before .if2 .taken) (c .exit .ensures _)
+    simp (← (at-if1 .before .is-on .ensures), at-if1 .if1 .left, ← (at-below-threshold .before .byte-at .ensures), ← (at-below-threshold .below-threshold .ensures), c .before .if2 .taken) (c .exit .ensures _)
 
 quiet-requires : tie.Need-quiet-requires
 quiet-requires c κs = tt
@@ -53,13 +53,13 @@ unfolding tprVirtualization
 returns-3 c =
     let at-below-threshold = c .before .before in
     let at-if1 = at-below-threshold .before .before .before in
-    simp (← (at-if1 .before .virtual-delivery .ensures), at-if1 .if1 .left, ← (at-below-threshold .before .byte-at .ensures), ← (at-below-threshold .below-threshold .ensures), c .before .if2 .left) (c .quiet .ensures _)
+    simp (← (at-if1 .before .is-on .ensures), at-if1 .if1 .left, ← (at-below-threshold .before .byte-at .ensures), ← (at-below-threshold .below-threshold .ensures), c .before .if2 .left) (c .quiet .ensures _)
 
 pub tpr-virtualization-spec : {M : Type 1} → statement M
 tpr-virtualization-spec =
     tie.close
     (tie.spec
-    virtual-delivery-requires
+    is-on-requires
     ppr-virtualization-requires
     evaluated-quiet-requires
     same-length

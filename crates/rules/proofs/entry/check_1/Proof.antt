@@ -2,27 +2,27 @@
 use Rattle.rules.proofs.entry.check_1.Statement.{statement}
 use Rattle.rules.proofs.entry.check_1.Tie as tie
 
-use-tpr-shadow-requires : tie.Need-use-tpr-shadow-requires
-use-tpr-shadow-requires c κs = tt
+is-on-requires : tie.Need-is-on-requires
+is-on-requires c κs = tt
 
-virtualize-x2apic-mode-requires : tie.Need-virtualize-x2apic-mode-requires
-virtualize-x2apic-mode-requires c κs = tt
+is-on-requires-2 : tie.Need-is-on-requires-2
+is-on-requires-2 c κs = tt
 
-apic-register-virtualization-requires : tie.Need-apic-register-virtualization-requires
-apic-register-virtualization-requires c κs = tt
+is-on-requires-3 : tie.Need-is-on-requires-3
+is-on-requires-3 c κs = tt
 
-virtual-delivery-requires : tie.Need-virtual-delivery-requires
-virtual-delivery-requires c κs = tt
+is-on-requires-4 : tie.Need-is-on-requires-4
+is-on-requires-4 c κs = tt
 
 returns : tie.Need-returns
-returns c = simp (← (c .before .before .before .use-tpr-shadow .ensures), ← (c .before .before .virtualize-x2apic-mode .ensures), ← (c .before .apic-register-virtualization .ensures), ← (c .virtual-delivery .ensures))
+returns c = simp (← (c .before .before .before .is-on .ensures), ← (c .before .before .is-on2 .ensures), ← (c .before .is-on3 .ensures), ← (c .is-on4 .ensures))
 
 pub check-1-spec : {M : Type 1} → statement M
 check-1-spec =
     tie.close
     (tie.spec
-    use-tpr-shadow-requires
-    virtualize-x2apic-mode-requires
-    apic-register-virtualization-requires
-    virtual-delivery-requires
+    is-on-requires
+    is-on-requires-2
+    is-on-requires-3
+    is-on-requires-4
     returns)

@@ -2,15 +2,15 @@
 use Rattle.rules.proofs.entry.check_2.Statement.{statement}
 use Rattle.rules.proofs.entry.check_2.Tie as tie
 
-virtualize-apic-accesses-requires : tie.Need-virtualize-apic-accesses-requires
-virtualize-apic-accesses-requires c κs = tt
+is-on-requires : tie.Need-is-on-requires
+is-on-requires c κs = tt
 
-virtualize-x2apic-mode-requires : tie.Need-virtualize-x2apic-mode-requires
-virtualize-x2apic-mode-requires c κs = tt
+is-on-requires-2 : tie.Need-is-on-requires-2
+is-on-requires-2 c κs = tt
 
 returns : tie.Need-returns
-returns c = simp (← (c .before .virtualize-apic-accesses .ensures), ← (c .virtualize-x2apic-mode .ensures))
+returns c = simp (← (c .before .is-on .ensures), ← (c .is-on2 .ensures))
 
 pub check-2-spec : {M : Type 1} → statement M
 check-2-spec =
-    tie.close (tie.spec virtualize-apic-accesses-requires virtualize-x2apic-mode-requires returns)
+    tie.close (tie.spec is-on-requires is-on-requires-2 returns)

@@ -2,15 +2,15 @@
 use Rattle.rules.proofs.entry.check_3.Statement.{statement}
 use Rattle.rules.proofs.entry.check_3.Tie as tie
 
-virtual-delivery-requires : tie.Need-virtual-delivery-requires
-virtual-delivery-requires c κs = tt
+is-on-requires : tie.Need-is-on-requires
+is-on-requires c κs = tt
 
-external-interrupt-exiting-requires : tie.Need-external-interrupt-exiting-requires
-external-interrupt-exiting-requires c κs = tt
+is-on-requires-2 : tie.Need-is-on-requires-2
+is-on-requires-2 c κs = tt
 
 returns : tie.Need-returns
-returns c = simp (← (c .before .virtual-delivery .ensures), ← (c .external-interrupt-exiting .ensures))
+returns c = simp (← (c .before .is-on .ensures), ← (c .is-on2 .ensures))
 
 pub check-3-spec : {M : Type 1} → statement M
 check-3-spec =
-    tie.close (tie.spec virtual-delivery-requires external-interrupt-exiting-requires returns)
+    tie.close (tie.spec is-on-requires is-on-requires-2 returns)

@@ -2,11 +2,11 @@
 use Rattle.rules.proofs.procedures.evaluates.Statement.{statement}
 use Rattle.rules.proofs.procedures.evaluates.Tie as tie
 
-interrupt-window-exiting-requires : tie.Need-interrupt-window-exiting-requires
-interrupt-window-exiting-requires c κs = tt
+is-on-requires : tie.Need-is-on-requires
+is-on-requires c κs = tt
 
 returns : tie.Need-returns
-returns c = simp (← (c .interrupt-window-exiting .ensures))
+returns c = simp (← (c .is-on .ensures))
 
 pub evaluates-spec : {M : Type 1} → statement M
-evaluates-spec = tie.close (tie.spec interrupt-window-exiting-requires returns)
+evaluates-spec = tie.close (tie.spec is-on-requires returns)

@@ -9,15 +9,15 @@ use Rattle.rules.specs.Procedures.{ppr, larger}
 use Rattle.page.specs.Page.{wordAt}
 use Rattle.stores.specs.Stores.{setWord, storeAt}
 use Rattle.registers.specs.Vectors.{isSet, putVector, highestBelow, highest}
 use Rattle.runs.specs.Procedures.{pprVirtualization, evaluation, evaluatedQuiet, requestedPage, requestedRecord, selfIpiVirtualization}
 use Rattle.runs.specs.Entry.{entered, entry, request}
 use Rattle.runs.specs.Memory.{followBy, written, writeBy, memoryWrite}
 use Rattle.runs.specs.Boundary.{deliveredPage, deliveredRecord, delivery, boundaryAt, boundary}
 use Rattle.runs.specs.Step.{carriedOut, step}
 use Rattle.runs.specs.Run.{start, after}
 use Rattle.runs.specs.History.{AllOn, none, more}
 use Rattle.runs.specs.Condition3.{depth, Recognition}
-use Rattle.runs.specs.Examples.{fifteenDeep, deliveryOff}
+use Rattle.sharpness.specs.Examples.{fifteenDeep, deliveryOff}
 
 -- every entry of the run has virtual-interrupt delivery on, and fifteen are then in service
 pub fifteen-allowed : AllOn fifteenDeep
