@@ -22,11 +22,14 @@ abbrev pub fromCr8 : Controls → Access
 fromCr8 c = cr8Access (cr8StoreExiting c) c
 
 -- exit 28's qualification: 8 + 256 × register to CR8, 24 + 256 × register from it
+abbrev pub cr8Qualification : ℕ → ℕ → ℕ
+cr8Qualification low register = low + 256 * register
+
 abbrev pub toCr8Qualification : ℕ → ℕ
-toCr8Qualification register = 8 + 256 * register
+toCr8Qualification register = cr8Qualification 8 register
 
 abbrev pub fromCr8Qualification : ℕ → ℕ
-fromCr8Qualification register = 24 + 256 * register
+fromCr8Qualification register = cr8Qualification 24 register
 
 -- RDMSR: passthrough if control 2 is off or the index isn't 800H to 8FFH. With control 3, redirected; without, only 808H is;
 -- the rest pass through.

@@ -1,6 +1,6 @@
 // Bytes and little-endian words of a page.
 ghost use mathlib.Core.Path.{_≡_};
-ghost use Prim.Native.Nat.{_+_, _≤_, _<_, _^_};
+ghost use Prim.Native.Nat.{_+_, _≤_};
 ghost use lib.ListN.{length};
 ghost use Rattle.page.specs.Page.{wordOf, byteAt, halfAt, wordAt, longAt, readAt};
 
@@ -36,19 +36,6 @@ fn whole_word(page: &[u8], at: usize) -> u32
     word_of(page[at], page[at + 1], page[at + 2], page[at + 3])
 }
 
-// Four bytes some of which may lie past the end.
-fn part_word(page: &[u8], at: u64) -> u32
-    requires { ⌜ at < 2 ^ 33 ⌝ }
-    ensures { λ r. ⌜ r ≡ wordAt (now (page .entry)) at ⌝ }
-{
-    let from = at as usize;
-    let b0 = byte_at(page, from);
-    let b1 = byte_at(page, from + 1);
-    let b2 = byte_at(page, from + 2);
-    let b3 = byte_at(page, from + 3);
-    word_of(b0, b1, b2, b3)
-}
-
 pub fn word_at(page: &[u8], offset: u32) -> u32
     ensures { λ r. ⌜ r ≡ wordAt (now (page .entry)) offset ⌝ }
 {
@@ -56,7 +43,11 @@ pub fn word_at(page: &[u8], offset: u32) -> u32
     if at + 4 <= page.len() {
         return whole_word(page, at);
     }
-    part_word(page, offset as u64)
+    let b0 = byte_at(page, at);
+    let b1 = byte_at(page, at + 1);
+    let b2 = byte_at(page, at + 2);
+    let b3 = byte_at(page, at + 3);
+    word_of(b0, b1, b2, b3)
 }
 
 // Eight bytes that the slice has.
@@ -69,16 +60,6 @@ fn whole_long(page: &[u8], at: usize) -> u64
     low + 0x1_0000_0000 * high
 }
 
-// Eight bytes some of which may lie past the end.
-fn part_long(page: &[u8], offset: u16) -> u64
-    ensures { λ r. ⌜ r ≡ longAt (now (page .entry)) offset ⌝ }
-{
-    let at = offset as u32;
-    let low = word_at(page, at) as u64;
-    let high = word_at(page, at + 4) as u64;
-    low + 0x1_0000_0000 * high
-}
-
 pub fn long_at(page: &[u8], offset: u16) -> u64
     ensures { λ r. ⌜ r ≡ longAt (now (page .entry)) offset ⌝ }
 {
@@ -86,7 +67,10 @@ pub fn long_at(page: &[u8], offset: u16) -> u64
     if at + 8 <= page.len() {
         return whole_long(page, at);
     }
-    part_long(page, offset)
+    let from = offset as u32;
+    let low = word_at(page, from) as u64;
+    let high = word_at(page, from + 4) as u64;
+    low + 0x1_0000_0000 * high
 }
 
 // The bytes of a read, by its size.

@@ -1,6 +1,6 @@
 // Bytes and little-endian words stored in a page.
 ghost use mathlib.Core.Path.{_≡_};
-ghost use Prim.Native.Nat.{_+_, _≤_, _<_, _^_};
+ghost use Prim.Native.Nat.{_+_, _≤_};
 ghost use lib.ListN.{length};
 ghost use Rattle.stores.specs.Stores.{setByte, setHalf, setWord, setLong, storeAt};
 
@@ -31,18 +31,6 @@ fn set_whole_word(page: &mut [u8], at: usize, value: u32)
     page[at + 3] = (value / 0x100_0000 % 0x100) as u8;
 }
 
-// Four bytes some of which may lie past the end.
-fn set_part_word(page: &mut [u8], at: u64, value: u32)
-    requires { ⌜ at < 2 ^ 33 ⌝ }
-    ensures { λ _. ⌜ now (page .exit) ≡ setWord (now (page .entry)) at value ⌝ }
-{
-    let from = at as usize;
-    set_byte(page, from, (value % 0x100) as u8);
-    set_byte(page, from + 1, (value / 0x100 % 0x100) as u8);
-    set_byte(page, from + 2, (value / 0x1_0000 % 0x100) as u8);
-    set_byte(page, from + 3, (value / 0x100_0000 % 0x100) as u8);
-}
-
 pub fn set_word(page: &mut [u8], offset: u32, value: u32)
     ensures { λ _. ⌜ now (page .exit) ≡ setWord (now (page .entry)) offset value ⌝ }
 {
@@ -51,7 +39,10 @@ pub fn set_word(page: &mut [u8], offset: u32, value: u32)
         set_whole_word(page, at, value);
         return;
     }
-    set_part_word(page, offset as u64, value);
+    set_byte(page, at, (value % 0x100) as u8);
+    set_byte(page, at + 1, (value / 0x100 % 0x100) as u8);
+    set_byte(page, at + 2, (value / 0x1_0000 % 0x100) as u8);
+    set_byte(page, at + 3, (value / 0x100_0000 % 0x100) as u8);
 }
 
 // Eight bytes that the slice has.
@@ -63,15 +54,6 @@ fn set_whole_long(page: &mut [u8], at: usize, value: u64)
     set_whole_word(page, at + 4, (value / 0x1_0000_0000) as u32);
 }
 
-// Eight bytes some of which may lie past the end.
-fn set_part_long(page: &mut [u8], offset: u16, value: u64)
-    ensures { λ _. ⌜ now (page .exit) ≡ setLong (now (page .entry)) offset value ⌝ }
-{
-    let at = offset as u32;
-    set_word(page, at, (value % 0x1_0000_0000) as u32);
-    set_word(page, at + 4, (value / 0x1_0000_0000) as u32);
-}
-
 pub fn set_long(page: &mut [u8], offset: u16, value: u64)
     ensures { λ _. ⌜ now (page .exit) ≡ setLong (now (page .entry)) offset value ⌝ }
 {
@@ -80,7 +62,9 @@ pub fn set_long(page: &mut [u8], offset: u16, value: u64)
         set_whole_long(page, at, value);
         return;
     }
-    set_part_long(page, offset, value);
+    let from = offset as u32;
+    set_word(page, from, (value % 0x1_0000_0000) as u32);
+    set_word(page, from + 4, (value / 0x1_0000_0000) as u32);
 }
 
 // The bytes of a write, by its size.

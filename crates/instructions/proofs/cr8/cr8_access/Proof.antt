@@ -3,20 +3,23 @@ use Rattle.instructions.specs.Cr8Msr.{cr8Access}
 use Rattle.instructions.proofs.cr8.cr8_access.Statement.{statement}
 use Rattle.instructions.proofs.cr8.cr8_access.Tie as tie
 
-returns : tie.Need-returns
-unfolding cr8Access
-returns c = simp (c .if1 .taken)
-
 is-on-requires : tie.Need-is-on-requires
 is-on-requires c κs = tt
 
+returns : tie.Need-returns
+unfolding cr8Access
+returns c = simp (← (c .before .is-on .ensures), c .if1 .taken)
+
+is-on-requires-2 : tie.Need-is-on-requires-2
+is-on-requires-2 c κs = tt
+
 returns-2 : tie.Need-returns-2
 unfolding cr8Access
-returns-2 c = simp (c .before .before .if1 .left, ← (c .before .is-on .ensures), c .if2 .taken)
+returns-2 c = simp (← (c .before .before .before .is-on .ensures), c .before .before .if1 .left, ← (c .before .is-on2 .ensures), c .if2 .taken)
 
 returns-3 : tie.Need-returns-3
 unfolding cr8Access
-returns-3 c = simp (c .before .before .if1 .left, ← (c .before .is-on .ensures), c .if2 .left)
+returns-3 c = simp (← (c .before .before .before .is-on .ensures), c .before .before .if1 .left, ← (c .before .is-on2 .ensures), c .if2 .left)
 
 pub cr8-access-spec : {M : Type 1} → statement M
-cr8-access-spec = tie.close (tie.spec returns is-on-requires returns-2 returns-3)
+cr8-access-spec = tie.close (tie.spec is-on-requires returns is-on-requires-2 returns-2 returns-3)

@@ -4,8 +4,8 @@ use borrow.Author.Needs.{needs}
 use Rattle.model.proofs.cr8.mov_to_cr8.Statement.{statement}
 use Rattle.model.proofs.cr8.mov_to_cr8.Tie as tie
 
-to-cr8-requires : tie.Need-to-cr8-requires
-to-cr8-requires c κs = tt
+cr8-access-requires : tie.Need-cr8-access-requires
+cr8-access-requires c κs = tt
 
 enum-told : tie.Need-enum-told
 enum-told c = search needs
@@ -16,8 +16,8 @@ passthrough-requires c κs = tt
 enum-told-2 : tie.Need-enum-told-2
 enum-told-2 c = search needs
 
-to-cr8-qualification-requires : tie.Need-to-cr8-qualification-requires
-to-cr8-qualification-requires c κs = tt
+cr8-qualification-requires : tie.Need-cr8-qualification-requires
+cr8-qualification-requires c κs = tt
 
 exit-requires : tie.Need-exit-requires
 exit-requires c κs = tt
@@ -39,11 +39,11 @@ tpr-virtualization-requires c κs = tt
 
 returns : tie.Need-returns
 unfolding movToCr8 toCr8By
-returns c = simp (← (c .before .before .before .to-cr8 .ensures), c .before .enum-told .given .1) (c .passthrough .ensures _)
+returns c = simp (← (c .before .before .before .cr8-access .ensures), c .before .enum-told .given .1) (c .passthrough .ensures _)
 
 returns-2 : tie.Need-returns-2
 unfolding movToCr8 toCr8By
-returns-2 c = simp (← (c .before .before .before .before .to-cr8 .ensures), c .before .before .enum-told2 .given .1, ← (c .before .to-cr8-qualification .ensures)) (c .exit .ensures _)
+returns-2 c = simp (← (c .before .before .before .before .cr8-access .ensures), c .before .before .enum-told2 .given .1, ← (c .before .cr8-qualification .ensures)) (c .exit .ensures _)
 
 same-length : tie.Need-same-length
 same-length c = search needs
@@ -54,18 +54,18 @@ returns-3 c =
     let at-tpr-virtualization = c .before .before in
     let at-set-word = at-tpr-virtualization .before .before .before .before in
     let at-enum-told3 = at-set-word .before .before in
-    let at-to-cr8 = at-enum-told3 .before .before in
-    simp (← (at-to-cr8 .to-cr8 .ensures), at-enum-told3 .enum-told3 .given .1, ← (at-set-word .set-word .ensures)) (at-tpr-virtualization .tpr-virtualization .ensures)
+    let at-cr8-access = at-enum-told3 .before .before in
+    simp (← (at-cr8-access .cr8-access .ensures), at-enum-told3 .enum-told3 .given .1, ← (at-set-word .set-word .ensures)) (at-tpr-virtualization .tpr-virtualization .ensures)
 
 pub mov-to-cr8-spec : {M : Type 1} → statement M
 mov-to-cr8-spec =
     tie.close
     (tie.spec
-    to-cr8-requires
+    cr8-access-requires
     enum-told
     passthrough-requires
     enum-told-2
-    to-cr8-qualification-requires
+    cr8-qualification-requires
     exit-requires
     enum-told-3
     cast-set-word

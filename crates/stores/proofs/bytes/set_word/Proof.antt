@@ -1,8 +1,20 @@
--- `stores::bytes::set_part_word` meets its contract: code and definition take the same cases. Assumes nothing.
+-- `stores::bytes::set_word` meets its contract: code and definition take the same cases. Assumes nothing.
 use Rattle.stores.specs.Stores.{setWord}
 use borrow.Author.Needs.{needs}
-use Rattle.stores.proofs.bytes.set_part_word.Statement.{statement}
-use Rattle.stores.proofs.bytes.set_part_word.Tie as tie
+use Rattle.stores.proofs.bytes.set_word.Statement.{statement}
+use Rattle.stores.proofs.bytes.set_word.Tie as tie
+
+add-if1 : tie.Need-add-if1
+add-if1 c = search needs
+
+set-whole-word-requires : tie.Need-set-whole-word-requires
+set-whole-word-requires c κs = search needs
+
+same-length : tie.Need-same-length
+same-length c = search needs
+
+returns : tie.Need-returns
+returns c = search needs
 
 cast-set-byte : tie.Need-cast-set-byte
 cast-set-byte c = search needs
@@ -37,22 +49,26 @@ cast-set-byte-4 c = search needs
 set-byte-requires-4 : tie.Need-set-byte-requires-4
 set-byte-requires-4 c κs = tt
 
-same-length : tie.Need-same-length
-same-length c = search needs
+same-length-2 : tie.Need-same-length-2
+same-length-2 c = search needs
 
-returns : tie.Need-returns
+returns-2 : tie.Need-returns-2
 unfolding setWord
-returns c =
+returns-2 c =
     let at-set-byte4 = c .before .before in
     let at-set-byte3 = at-set-byte4 .before .before .before .before in
     let at-set-byte2 = at-set-byte3 .before .before .before .before in
     let at-set-byte = at-set-byte2 .before .before .before .before in
     simp ((at-set-byte4 .set-byte4 .ensures), (at-set-byte3 .set-byte3 .ensures), (at-set-byte2 .set-byte2 .ensures), (at-set-byte .set-byte .ensures))
 
-pub set-part-word-spec : {M : Type 1} → statement M
-set-part-word-spec =
+pub set-word-spec : {M : Type 1} → statement M
+set-word-spec =
     tie.close
     (tie.spec
+    add-if1
+    set-whole-word-requires
+    same-length
+    returns
     cast-set-byte
     set-byte-requires
     add-set-byte
@@ -64,5 +80,5 @@ set-part-word-spec =
     add-set-byte-3
     cast-set-byte-4
     set-byte-requires-4
-    same-length
-    returns)
+    same-length-2
+    returns-2)

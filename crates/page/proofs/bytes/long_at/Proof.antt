@@ -1,8 +1,17 @@
--- `page::bytes::part_long` meets its contract: code and definition take the same cases. Assumes nothing.
+-- `page::bytes::long_at` meets its contract: code and definition take the same cases. Assumes nothing.
 use Rattle.page.specs.Page.{longAt}
 use borrow.Author.Needs.{needs}
-use Rattle.page.proofs.bytes.part_long.Statement.{statement}
-use Rattle.page.proofs.bytes.part_long.Tie as tie
+use Rattle.page.proofs.bytes.long_at.Statement.{statement}
+use Rattle.page.proofs.bytes.long_at.Tie as tie
+
+add-if1 : tie.Need-add-if1
+add-if1 c = search needs
+
+whole-long-requires : tie.Need-whole-long-requires
+whole-long-requires c κs = search needs
+
+returns : tie.Need-returns
+returns c = search needs
 
 word-at-requires : tie.Need-word-at-requires
 word-at-requires c κs = tt
@@ -25,14 +34,17 @@ mul-result c = search needs
 add-result : tie.Need-add-result
 add-result c = search needs
 
-returns : tie.Need-returns
+returns-2 : tie.Need-returns-2
 unfolding longAt
-returns c = simp (← (c .before .word-at .ensures), ← (c .word-at2 .ensures))
+returns-2 c = simp (← (c .before .word-at .ensures), ← (c .word-at2 .ensures))
 
-pub part-long-spec : {M : Type 1} → statement M
-part-long-spec =
+pub long-at-spec : {M : Type 1} → statement M
+long-at-spec =
     tie.close
     (tie.spec
+    add-if1
+    whole-long-requires
+    returns
     word-at-requires
     cast-low
     add-word-at
@@ -40,4 +52,4 @@ part-long-spec =
     cast-high
     mul-result
     add-result
-    returns)
+    returns-2)
