@@ -1,8 +1,12 @@
 /*
  * Garlandgrid: a proved model of Intel's virtual interrupt controller.
  *
- * One virtual processor is a page of 4,096 bytes and a record of 48 bytes,
- * both owned by the caller. gg_step carries out one event on them and answers.
+ * One virtual processor is a page and a record, both owned by the caller and handed to every call:
+ *   the page is its virtual-APIC page, the 4,096 bytes that hold VTPR, VPPR, VISR, VIRR and the others;
+ *   the record is what the processor itself holds, 48 bytes laid out as struct gg_record below.
+ * A processor starts with a page of zeros and the record that gg_fresh writes.
+ * gg_step carries out one event on the two and answers; gg_leave takes the guest out for a reason that
+ * is no event of the model. The library keeps nothing from one call to the next.
  * Offsets, vectors, reasons and numbers are those of the project's build scope.
  */
 #ifndef GARLANDGRID_H
@@ -23,24 +27,28 @@ extern "C" {
 GG_STATIC_ASSERT(__BYTE_ORDER__ == __ORDER_LITTLE_ENDIAN__, "the record and event are little-endian");
 #endif
 
-/* Lengths that gg_step accepts; any other length is refused. */
+/* The major number grows where a promise changes, the minor one where something is added. */
+#define GG_VERSION_MAJOR 1
+#define GG_VERSION_MINOR 0
+
+/* Lengths that the functions accept; any other length is refused. */
 enum {
     GG_PAGE_LENGTH = 4096,
     GG_RECORD_LENGTH = 48,
     GG_EVENT_LENGTH = 48
 };
 
-/* Controls, as bits of gg_record.flags and of an entry's value; all higher bits are 0. */
-#define GG_USE_TPR_SHADOW (UINT64_C(1) << 0)
-#define GG_VIRTUALIZE_APIC_ACCESSES (UINT64_C(1) << 1)
-#define GG_VIRTUALIZE_X2APIC_MODE (UINT64_C(1) << 2)
-#define GG_APIC_REGISTER_VIRTUALIZATION (UINT64_C(1) << 3)
-#define GG_VIRTUAL_INTERRUPT_DELIVERY (UINT64_C(1) << 4)
-#define GG_EXTERNAL_INTERRUPT_EXITING (UINT64_C(1) << 5)
-#define GG_INTERRUPT_WINDOW_EXITING (UINT64_C(1) << 6)
-#define GG_CR8_LOAD_EXITING (UINT64_C(1) << 7)
-#define GG_CR8_STORE_EXITING (UINT64_C(1) << 8)
-#define GG_ALL_CONTROLS ((UINT64_C(1) << 9) - 1)
+/* Controls, as bits of gg_record.flags and of an entry's controls; all higher bits are 0. */
+#define GG_USE_TPR_SHADOW (UINT32_C(1) << 0)
+#define GG_VIRTUALIZE_APIC_ACCESSES (UINT32_C(1) << 1)
+#define GG_VIRTUALIZE_X2APIC_MODE (UINT32_C(1) << 2)
+#define GG_APIC_REGISTER_VIRTUALIZATION (UINT32_C(1) << 3)
+#define GG_VIRTUAL_INTERRUPT_DELIVERY (UINT32_C(1) << 4)
+#define GG_EXTERNAL_INTERRUPT_EXITING (UINT32_C(1) << 5)
+#define GG_INTERRUPT_WINDOW_EXITING (UINT32_C(1) << 6)
+#define GG_CR8_LOAD_EXITING (UINT32_C(1) << 7)
+#define GG_CR8_STORE_EXITING (UINT32_C(1) << 8)
+#define GG_ALL_CONTROLS ((UINT32_C(1) << 9) - 1)
 
 /* gg_record.mode: which events are allowed depends on it. */
 enum {
@@ -61,7 +69,11 @@ enum {
     GG_REQUEST = 9
 };
 
-/* gg_event.flags of a memory read or write; a write never has the fetch bit. */
+/*
+ * gg_event.flags of a memory read or write; a write never has the fetch bit.
+ * Already virtualised: an earlier access of the same instruction was a write that answered GG_QUIET.
+ * The core clears it where an instruction begins.
+ */
 enum {
     GG_INSTRUCTION_FETCH = 1,
     GG_ALREADY_VIRTUALISED = 2
@@ -82,15 +94,15 @@ enum {
     GG_WAIT_FOR_SIPI = 3
 };
 
-/* Answers: what gg_step returns; the comment names what first and second hold. */
+/* Answers: what gg_step and gg_leave return; the comment names what first and second hold. */
 enum {
     GG_REFUSED = 0,     /* refusal, failing entry check (0 but for refusal 4) */
     GG_REDIRECTED = 1,  /* value read */
-    GG_PASSTHROUGH = 2, /* the hardware or the hypervisor serves the access */
+    GG_PASSTHROUGH = 2, /* the model has no part in the access: the core does it */
     GG_FAULT = 3,       /* general-protection fault */
     GG_VM_EXIT = 4,     /* reason, qualification */
     GG_DELIVERED = 5,   /* vector */
-    GG_QUIET = 6        /* the event is carried out */
+    GG_QUIET = 6        /* what was asked is carried out */
 };
 
 /* Refusals, in the order in which they are tested; none changes page or record. */
@@ -109,14 +121,14 @@ enum {
     GG_CHECK_TPR_THRESHOLD = 4           /* shadow without VID and a threshold above 15 */
 };
 
-/* Basic exit reasons. */
+/* Basic exit reasons: before the instruction, nothing of it is done; after it, its write stays. */
 enum {
-    GG_EXIT_INTERRUPT_WINDOW = 7,
-    GG_EXIT_CONTROL_REGISTER = 28,
-    GG_EXIT_TPR_BELOW_THRESHOLD = 43,
-    GG_EXIT_APIC_ACCESS = 44,
-    GG_EXIT_VIRTUALIZED_EOI = 45,
-    GG_EXIT_APIC_WRITE = 56
+    GG_EXIT_INTERRUPT_WINDOW = 7,     /* at the boundary */
+    GG_EXIT_CONTROL_REGISTER = 28,    /* before the instruction */
+    GG_EXIT_TPR_BELOW_THRESHOLD = 43, /* after it; at an entry, before any instruction */
+    GG_EXIT_APIC_ACCESS = 44,         /* before it */
+    GG_EXIT_VIRTUALIZED_EOI = 45,     /* after it */
+    GG_EXIT_APIC_WRITE = 56           /* after it */
 };
 
 /* Exit 44's qualification is the offset plus the kind of access. */
@@ -137,45 +149,54 @@ enum {
     GG_VICR_HI = 0x310
 };
 
-/* The processor record, laid over its 48 bytes. */
+/* Stops a compiler that would put a field anywhere but at its place in the bytes. */
+#define GG_AT(place, structure, field) \
+    GG_STATIC_ASSERT(offsetof(struct structure, field) == (place), #structure "." #field " stands at " #place)
+
+/*
+ * The processor record, laid over its 48 bytes. Out of bounds are a mode or a recognised above 1, a flag
+ * above bit 8 and a reserved byte other than 0; every other record is taken, reachable or not.
+ */
 struct gg_record {
-    uint8_t mode;         /* GG_ROOT or GG_GUEST */
-    uint8_t rvi;          /* requesting virtual interrupt */
-    uint8_t svi;          /* servicing virtual interrupt */
-    uint8_t recognised;   /* 1 while a virtual interrupt is recognised, else 0 */
-    uint32_t threshold;   /* TPR threshold */
-    uint64_t flags;       /* controls in force */
-    uint64_t eoi_exit[4]; /* vector v at word v / 64, bit v mod 64 */
+    uint8_t mode;             /* GG_ROOT or GG_GUEST */
+    uint8_t rvi;              /* requesting virtual interrupt */
+    uint8_t svi;              /* servicing virtual interrupt */
+    uint8_t recognised;       /* 1 while a virtual interrupt is recognised, else 0 */
+    uint32_t threshold;       /* TPR threshold: all of it at an entry, bits 3:0 at a TPR write */
+    uint32_t flags;           /* controls in force */
+    uint8_t reserved_zero[4]; /* kept for a notification vector (12, 13) and two summaries (14, 15) */
+    uint64_t eoi_exit[4];     /* vector v at word v / 64, bit v mod 64 */
 };
 
 GG_STATIC_ASSERT(sizeof(struct gg_record) == GG_RECORD_LENGTH, "record length");
-GG_STATIC_ASSERT(offsetof(struct gg_record, mode) == 0, "mode");
-GG_STATIC_ASSERT(offsetof(struct gg_record, rvi) == 1, "rvi");
-GG_STATIC_ASSERT(offsetof(struct gg_record, svi) == 2, "svi");
-GG_STATIC_ASSERT(offsetof(struct gg_record, recognised) == 3, "recognised");
-GG_STATIC_ASSERT(offsetof(struct gg_record, threshold) == 4, "threshold");
-GG_STATIC_ASSERT(offsetof(struct gg_record, flags) == 8, "flags");
-GG_STATIC_ASSERT(offsetof(struct gg_record, eoi_exit) == 16, "eoi_exit");
+GG_AT(0, gg_record, mode);
+GG_AT(1, gg_record, rvi);
+GG_AT(2, gg_record, svi);
+GG_AT(3, gg_record, recognised);
+GG_AT(4, gg_record, threshold);
+GG_AT(8, gg_record, flags);
+GG_AT(12, gg_record, reserved_zero);
+GG_AT(16, gg_record, eoi_exit);
 
 /* One event, laid over its 48 bytes; a field that the kind does not name is ignored. */
 struct gg_event {
     uint8_t kind;         /* GG_ENTRY to GG_REQUEST */
     uint8_t size;         /* memory: 1, 2, 4 or 8 */
     uint8_t flags;        /* memory: fetch, already virtualised; boundary: IF, blocking */
-    uint8_t detail;       /* CR8: register 0 to 15; boundary: activity */
-    uint32_t number;      /* memory: offset; MSR: index; request: vector; entry: threshold */
-    uint64_t value;       /* memory write, to CR8, WRMSR: value; entry: controls */
-    uint64_t eoi_exit[4]; /* entry */
+    uint8_t detail;       /* CR8: register 0 to 15; boundary: activity 0 to 3 */
+    uint32_t number;      /* memory: offset 0 to 4095; MSR: index; request: vector 0 to 255; entry: threshold */
+    uint64_t value;       /* memory write, to CR8 (0 to 15), WRMSR; entry: controls in bits 31:0, above them 0 */
+    uint64_t eoi_exit[4]; /* entry: as in the record */
 };
 
 GG_STATIC_ASSERT(sizeof(struct gg_event) == GG_EVENT_LENGTH, "event length");
-GG_STATIC_ASSERT(offsetof(struct gg_event, kind) == 0, "kind");
-GG_STATIC_ASSERT(offsetof(struct gg_event, size) == 1, "size");
-GG_STATIC_ASSERT(offsetof(struct gg_event, flags) == 2, "flags");
-GG_STATIC_ASSERT(offsetof(struct gg_event, detail) == 3, "detail");
-GG_STATIC_ASSERT(offsetof(struct gg_event, number) == 4, "number");
-GG_STATIC_ASSERT(offsetof(struct gg_event, value) == 8, "value");
-GG_STATIC_ASSERT(offsetof(struct gg_event, eoi_exit) == 16, "eoi_exit");
+GG_AT(0, gg_event, kind);
+GG_AT(1, gg_event, size);
+GG_AT(2, gg_event, flags);
+GG_AT(3, gg_event, detail);
+GG_AT(4, gg_event, number);
+GG_AT(8, gg_event, value);
+GG_AT(16, gg_event, eoi_exit);
 
 /* An answer with its two numbers; a number that the answer does not name is 0. */
 struct gg_answer {
@@ -184,12 +205,36 @@ struct gg_answer {
     uint64_t second;
 };
 
-/* Carries out one event; page, record, event, first and second never overlap. */
+/*
+ * Writes a fresh record, 48 zero bytes that stand for root mode, and returns GG_QUIET.
+ * Any length but 48, a null record of length 0 among them, returns GG_REFUSED and writes nothing.
+ * The page is not handed over: the caller fills a fresh processor's page with zeros.
+ */
+uint32_t gg_fresh(uint8_t *record, size_t record_len);
+
+/*
+ * Carries out one event on a page and a record and returns the answer, GG_REFUSED to GG_QUIET.
+ * first and second always get the answer's two numbers, and 0 where it names none.
+ * Refusals are tested in this order, and each leaves every byte of page and record:
+ *   1, the page isn't 4,096 bytes long; 2, record or event isn't 48 bytes long or has a field out of
+ *   bounds; 3, the event belongs to the other mode; 4, an entry check fails, with the first one in second.
+ * A null page, record or event with length 0 is refused as any wrong length is; with another length,
+ * each points to that many bytes, at any address. first and second are never null. Nothing overlaps.
+ */
 uint32_t gg_step(uint8_t *page, size_t page_len, uint8_t *record, size_t record_len,
                  const uint8_t *event, size_t event_len, uint64_t *first, uint64_t *second);
 
-/* Writes a fresh record and says GG_QUIET; any length but 48 is refused and left as it is. */
-uint32_t gg_fresh(uint8_t *record, size_t record_len);
+/*
+ * The guest leaves for a reason outside the model, such as CPUID, HLT exiting or an EPT violation: the record
+ * gets root mode and recognition off, nothing else of it changes, and the answer is GG_QUIET.
+ * No page is handed over, since none changes; an entry event takes the guest back in.
+ * The other answer is GG_REFUSED with the refusal in first, and the record keeps every byte:
+ *   2, the record isn't 48 bytes long, a null one of length 0 among them, or has a field out of bounds;
+ *   3, it is in root mode already.
+ * Both numbers are always written, 0 but for a refusal's first. first and second are never null, and
+ * neither lies in the record.
+ */
+uint32_t gg_leave(uint8_t *record, size_t record_len, uint64_t *first, uint64_t *second);
 
 /* An event of a kind with every other field zero; the constructors below start from it. */
 static inline struct gg_event gg_event_of(uint8_t kind)
@@ -206,8 +251,8 @@ static inline struct gg_event gg_event_of(uint8_t kind)
     return event;
 }
 
-/* VM entry with its controls; a null eoi_exit stands for no EOI-exit bit. */
-static inline struct gg_event gg_entry(uint64_t controls, uint32_t threshold, const uint64_t *eoi_exit)
+/* VM entry with its controls; eoi_exit is four words, or null for no EOI-exit bit. */
+static inline struct gg_event gg_entry(uint32_t controls, uint32_t threshold, const uint64_t *eoi_exit)
 {
     struct gg_event event = gg_event_of(GG_ENTRY);
     event.number = threshold;
@@ -217,7 +262,7 @@ static inline struct gg_event gg_entry(uint64_t controls, uint32_t threshold, co
     return event;
 }
 
-/* A request of a vector from outside the guest. */
+/* A request of a vector 0 to 255, in root mode. */
 static inline struct gg_event gg_request(uint32_t vector)
 {
     struct gg_event event = gg_event_of(GG_REQUEST);
@@ -225,7 +270,7 @@ static inline struct gg_event gg_request(uint32_t vector)
     return event;
 }
 
-/* A guest read of, or fetch from, the APIC-access page. */
+/* A guest read of, or fetch from, the APIC-access page, by its first byte's offset 0 to 4095. */
 static inline struct gg_event gg_memory_read(uint32_t offset, uint8_t size, uint8_t flags)
 {
     struct gg_event event = gg_event_of(GG_MEMORY_READ);
@@ -235,7 +280,7 @@ static inline struct gg_event gg_memory_read(uint32_t offset, uint8_t size, uint
     return event;
 }
 
-/* A guest write to the APIC-access page; the value fits its size. */
+/* A guest write to the APIC-access page. The value is not cut: one that does not fit the size is refused. */
 static inline struct gg_event gg_memory_write(uint32_t offset, uint8_t size, uint64_t value, uint8_t flags)
 {
     struct gg_event event = gg_memory_read(offset, size, flags);
@@ -287,7 +332,7 @@ static inline struct gg_event gg_boundary(uint8_t flags, uint8_t activity)
     return event;
 }
 
-/* gg_step on the structures, with the answer and its numbers in one value. */
+/* gg_step on the structures, neither of them null, with the answer and its numbers in one value. */
 static inline struct gg_answer gg_run(uint8_t *page, size_t page_len, struct gg_record *record,
                                       const struct gg_event *event)
 {
@@ -299,7 +344,30 @@ static inline struct gg_answer gg_run(uint8_t *page, size_t page_len, struct gg_
     return answer;
 }
 
-/* A 32-bit register of a page, read as gg_step reads it. */
+/* gg_leave on a record that isn't null, with the answer and its numbers in one value. */
+static inline struct gg_answer gg_run_leave(struct gg_record *record)
+{
+    struct gg_answer answer;
+    answer.first = 0;
+    answer.second = 0;
+    answer.number = gg_leave((uint8_t *)record, sizeof *record, &answer.first, &answer.second);
+    return answer;
+}
+
+/*
+ * 1 where a guest's boundary with these flags and this activity does something, else 0: it is open (IF on,
+ * neither blocking, active or HLT), and interrupt-window exiting is on or an interrupt is recognised.
+ * Where it says 0, the boundary is quiet and changes nothing, so a simulator need not send it.
+ * It looks at no mode: it speaks of a record in guest mode, and of flags and activities within bounds.
+ */
+static inline int gg_boundary_matters(const struct gg_record *record, uint8_t flags, uint8_t activity)
+{
+    int blocking = flags & (GG_BLOCKING_BY_STI | GG_BLOCKING_BY_MOV_SS);
+    int open = (flags & GG_IF) && !blocking && (activity == GG_ACTIVE || activity == GG_HLT);
+    return open && ((record->flags & GG_INTERRUPT_WINDOW_EXITING) || record->recognised);
+}
+
+/* A 32-bit register of a page, read as gg_step reads it; the offset is at most FFCH. */
 static inline uint32_t gg_word(const uint8_t *page, uint32_t offset)
 {
     return (uint32_t)page[offset] | (uint32_t)page[offset + 1] << 8 | (uint32_t)page[offset + 2] << 16 |

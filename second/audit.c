@@ -12,17 +12,19 @@ static uint8_t highest_vector(const struct trial *t, uint32_t base)
     return highest;
 }
 
-static bool retires(const struct gg_event *event, const struct gg_answer *answer)
+/* Whether a step is a virtualised EOI; the event's bytes are never changed, so they stand in the trial. */
+static bool retires(const struct trial *t, const struct gg_answer *answer)
 {
-    bool place = (event->kind == GG_MEMORY_WRITE && event->number == GG_VEOI) ||
-                 (event->kind == GG_WRMSR && event->number == 0x80B);
+    unsigned kind = trial_kind(t);
+    uint32_t number = trial_event(t).number;
+    bool place = (kind == GG_MEMORY_WRITE && number == GG_VEOI) || (kind == GG_WRMSR && number == 0x80B);
     bool exits = answer->number == GG_VM_EXIT && answer->first == GG_EXIT_VIRTUALIZED_EOI;
     return place && (answer->number == GG_QUIET || exits);
 }
 
-static const char *follow(struct audit *audit, const struct gg_event *event, const struct gg_answer *answer)
+static const char *follow(struct audit *audit, const struct trial *t, const struct gg_answer *answer)
 {
-    if (retires(event, answer) && audit->depth > 0)
+    if (retires(t, answer) && audit->depth > 0)
         audit->depth--;
     if (answer->number != GG_DELIVERED)
         return NULL;
@@ -57,9 +59,9 @@ static const char *record_holds(const struct trial *t)
     return NULL;
 }
 
-const char *audit_step(struct audit *audit, const struct gg_event *event, const struct side *side)
+const char *audit_step(struct audit *audit, const struct side *side)
 {
-    const char *broken = follow(audit, event, &side->answer);
+    const char *broken = follow(audit, &side->trial, &side->answer);
     if (!broken)
         broken = service_bits(audit, &side->trial);
     return broken ? broken : record_holds(&side->trial);

@@ -17,12 +17,18 @@ static bool memory_in_bounds(const struct happening *e)
     return e->kind == READ || (!(e->flags & FETCH) && fits(e->value, e->size));
 }
 
+/* An entry's controls have 32 bits, and the four bytes above them are reserved. */
+static bool controls_in_bounds(uint64_t value)
+{
+    return (uint32_t)value >> CONTROLS == 0 && (value >> 32 == 0 || FAULT(ENTRY_RESERVED));
+}
+
 /* Whether every field that the event's kind names lies in its bounds. */
 static bool event_in_bounds(const struct happening *e)
 {
     switch (e->kind) {
     case ENTRY:
-        return e->value >> CONTROLS == 0;
+        return controls_in_bounds(e->value);
     case READ:
     case WRITE:
         return memory_in_bounds(e);
@@ -44,17 +50,28 @@ static bool event_in_bounds(const struct happening *e)
 
 static bool record_in_bounds(const struct cpu *cpu)
 {
-    return cpu->mode <= 1 && cpu->recognised <= 1 && cpu->controls >> CONTROLS == 0;
+    bool reserved = cpu->reserved == 0 || FAULT(RECORD_RESERVED);
+    return cpu->mode <= 1 && cpu->recognised <= 1 && cpu->controls >> CONTROLS == 0 && reserved;
 }
 
 unsigned bounds_refusal(const struct cpu *cpu, size_t page_len, const struct happening *e)
 {
     unsigned needed = e->kind == ENTRY || e->kind == REQUEST ? 0 : 1;
+    bool bounds = record_in_bounds(cpu) && event_in_bounds(e);
+    if (FAULT(PAGE_LAST) && !bounds)
+        return 2;
     if (page_len != PAGE)
         return 1;
     if (FAULT(MODE_FIRST) && cpu->mode != needed)
         return 3;
-    if (!record_in_bounds(cpu) || !event_in_bounds(e))
+    if (!bounds)
         return 2;
     return cpu->mode != needed ? 3 : 0;
+}
+
+unsigned bounds_leave_refusal(const struct cpu *cpu)
+{
+    if (!record_in_bounds(cpu) && !FAULT(LEAVE_BOUNDS))
+        return 2;
+    return cpu->mode == 1 || FAULT(LEAVE_IN_ROOT) ? 0 : 3;
 }

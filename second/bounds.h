@@ -4,7 +4,8 @@
 
 #include "oracle.h"
 
-/* The refusal due before any rule is tried, 0 for none. */
+/* The refusal due before any rule is tried, 0 for none: of an event, and of a leave. */
 unsigned bounds_refusal(const struct cpu *cpu, size_t page_len, const struct happening *e);
+unsigned bounds_leave_refusal(const struct cpu *cpu);
 
 #endif

@@ -5,11 +5,27 @@ warnings='-Wall -Wextra -Wpedantic -Werror'
 flags="-std=c11 -O2 $warnings -I$root/include -I$root/second"
 mkdir -p "$out"
 
-# Stops where the archive is missing, since every program links it.
+# Stops where rt is missing, since nothing else makes the static library.
+need_rt() {
+    have rt && return
+    echo "rt isn't on PATH: it is the Rattle toolchain, which proves the crates and makes the library." >&2
+    echo "$root/README.md names its commands and says where to read on." >&2
+    return 1
+}
+
+# need_archive ARCHIVE: stops where the archive is missing, since every program links it.
 need_archive() {
     [ -f "$1" ] && return
-    echo "no static library at $1; 'rt staticlib capi' makes it" >&2
+    echo "no static library at $1: 'rt staticlib capi' in $root makes target/staticlib/libcapi.a." >&2
+    need_rt
     return 1
+}
+
+# archive_is_old ARCHIVE: whether it is missing or older than a source that the library is made from
+archive_is_old() {
+    [ -f "$1" ] || return 0
+    [ -n "$(find "$root/crates.txt" "$root/crates" -newer "$1" \
+        \( -name '*.rt' -o -name '*.antt' -o -name crates.txt \))" ]
 }
 
 # The named sources of this folder, as paths.
@@ -19,26 +35,27 @@ sources() {
     done
 }
 
+# The header is held to both languages by one source, compiled as C11 and as C++11.
 build_header_c() {
-    $CC -std=c11 $warnings -I"$root/include" -c "$root/second/header_c.c" -o "$out/header_c.o"
+    $CC -std=c11 $warnings -I"$root/include" -c "$root/second/header.c" -o "$out/header_c.o"
 }
 
 build_header_cpp() {
-    $CXX -std=c++11 $warnings -I"$root/include" -c "$root/second/header_cpp.cc" -o "$out/header_cpp.o"
+    $CXX -x c++ -std=c++11 $warnings -I"$root/include" -c "$root/second/header.c" -o "$out/header_cpp.o"
 }
 
 # build_compare ARCHIVE
 build_compare() {
     need_archive "$1" &&
         $CC $flags $(sources oracle bounds open edge faults trial generate junk sweep session audit show tally \
-            stage named compare) "$1" -o "$out/compare"
+            stage named null matters compare) "$1" -o "$out/compare"
 }
 
 # build_bench ARCHIVE: the second program without faults, searching by bits and once more by words
 build_bench() {
     need_archive "$1" &&
         $CC $flags -DWITHOUT_FAULTS -DSCAN_WORDS -Doracle_step=oracle_step_words \
-            -c "$root/second/oracle.c" -o "$out/oracle_words.o" &&
+            -Doracle_leave=oracle_leave_words -c "$root/second/oracle.c" -o "$out/oracle_words.o" &&
         $CC $flags -DWITHOUT_FAULTS $(sources oracle bounds open edge workload counter bench) \
             "$out/oracle_words.o" "$1" -o "$out/bench"
 }

@@ -1,7 +1,9 @@
 /* The driver: generates steps from a seed, runs both programs, stops at the first difference. */
 #include "faults.h"
 #include "generate.h"
+#include "matters.h"
 #include "named.h"
+#include "null.h"
 #include "session.h"
 #include "show.h"
 #include "sweep.h"
@@ -25,13 +27,15 @@ static void help(FILE *to)
 {
     fputs("usage: compare [--seed N] [--fault NAME] COMMAND\n"
           "Runs the proved model and an independent second program on the same steps and\n"
-          "compares answer, record and page after every step.\n\n"
+          "compares answer, record and page after every step, be it an event or a leave.\n\n"
           "  gate              every sweep, random steps, junk and sessions; the short run\n"
           "  long              ten million steps, with a table of what they exercise\n"
           "  named             the named bench cases\n"
+          "  null              null pointers with length 0\n"
+          "  matters           the header's gg_boundary_matters\n"
           "  faults            lists the faults that --fault takes\n"
           "  replay SEED STEP  prints one step, named as in 'memory:12345'\n\n"
-          "  --seed N          the seed of gate and long (default 1)\n"
+          "  --seed N          the seed of what is random (default 1)\n"
           "  --fault NAME      the second program follows one wrong rule\n\n"
           "Exit status: 0 no difference, 1 a difference or something never exercised, 2 bad usage.\n",
           to);
@@ -161,6 +165,22 @@ static int named(void)
     return failed ? DIFFERS : OK;
 }
 
+static int null(void)
+{
+    return null_run(seed) ? DIFFERS : OK;
+}
+
+static int matters(void)
+{
+    return matters_run(seed) ? DIFFERS : OK;
+}
+
+static int faults(void)
+{
+    fault_print_all();
+    return OK;
+}
+
 static bool read_number(const char *text, uint64_t *number)
 {
     char *end;
@@ -224,18 +244,16 @@ static int replay(const char *seed_text, const char *step_text)
 
 static int command(int count, char **words)
 {
-    if (count == 1 && strcmp(words[0], "gate") == 0)
-        return gate();
-    if (count == 1 && strcmp(words[0], "long") == 0)
-        return long_run();
-    if (count == 1 && strcmp(words[0], "named") == 0)
-        return named();
+    static const struct {
+        const char *name;
+        int (*run)(void);
+    } commands[] = {{"gate", gate}, {"long", long_run},   {"named", named},
+                    {"null", null}, {"matters", matters}, {"faults", faults}};
+    for (size_t i = 0; i < sizeof commands / sizeof commands[0]; i++)
+        if (count == 1 && strcmp(words[0], commands[i].name) == 0)
+            return commands[i].run();
     if (count == 3 && strcmp(words[0], "replay") == 0)
         return replay(words[1], words[2]);
-    if (count == 1 && strcmp(words[0], "faults") == 0) {
-        fault_print_all();
-        return OK;
-    }
     help(stderr);
     return USAGE;
 }

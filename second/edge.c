@@ -5,7 +5,8 @@
 
 #include <string.h>
 
-enum { LENGTH = 48, AT_WORD = 4, AT_LONG = 8, AT_EXITS = 16, EXITS = 32 };
+enum { LENGTH = 48, AT_THRESHOLD = 4, AT_CONTROLS = 8, AT_RESERVED = 12, AT_EXITS = 16, EXITS = 32 };
+enum { AT_NUMBER = 4, AT_VALUE = 8 };
 
 static uint64_t long_at(const uint8_t *from)
 {
@@ -21,8 +22,9 @@ struct cpu edge_cpu(const uint8_t *record, size_t record_len)
     cpu.rvi = record[1];
     cpu.svi = record[2];
     cpu.recognised = record[3];
-    cpu.threshold = load_word(record + AT_WORD);
-    cpu.controls = long_at(record + AT_LONG);
+    cpu.threshold = load_word(record + AT_THRESHOLD);
+    cpu.controls = load_word(record + AT_CONTROLS);
+    cpu.reserved = load_word(record + AT_RESERVED);
     memcpy(cpu.eoi_exit, record + AT_EXITS, EXITS);
     return cpu;
 }
@@ -36,22 +38,33 @@ struct happening edge_happening(const uint8_t *event, size_t event_len)
     happening.size = event[1];
     happening.flags = event[2];
     happening.detail = event[3];
-    happening.number = load_word(event + AT_WORD);
-    happening.value = long_at(event + AT_LONG);
+    happening.number = load_word(event + AT_NUMBER);
+    happening.value = long_at(event + AT_VALUE);
     memcpy(happening.eoi_exit, event + AT_EXITS, EXITS);
     return happening;
 }
 
+/* Writes a processor back; the reserved bytes stay as they are. */
 static void put_cpu(uint8_t *record, const struct cpu *cpu)
 {
     record[0] = (uint8_t)cpu->mode;
     record[1] = (uint8_t)cpu->rvi;
     record[2] = (uint8_t)cpu->svi;
     record[3] = (uint8_t)cpu->recognised;
-    store_word(record + AT_WORD, cpu->threshold);
-    store_word(record + AT_LONG, (uint32_t)cpu->controls);
-    store_word(record + AT_LONG + 4, (uint32_t)(cpu->controls >> 32));
+    store_word(record + AT_THRESHOLD, cpu->threshold);
+    store_word(record + AT_CONTROLS, cpu->controls);
     memcpy(record + AT_EXITS, cpu->eoi_exit, EXITS);
+}
+
+/* Hands an outcome over; only what isn't refused is written back. */
+static inline uint32_t hand_over(struct outcome outcome, const struct cpu *cpu, uint8_t *record,
+                                 uint64_t *first, uint64_t *second)
+{
+    if (outcome.answer != 0)
+        put_cpu(record, cpu);
+    *first = outcome.first;
+    *second = outcome.second;
+    return outcome.answer;
 }
 
 uint32_t second_step(uint8_t *page, size_t page_len, uint8_t *record, size_t record_len,
@@ -60,11 +73,14 @@ uint32_t second_step(uint8_t *page, size_t page_len, uint8_t *record, size_t rec
     struct cpu cpu = edge_cpu(record, record_len);
     struct happening happening = edge_happening(event, event_len);
     struct outcome outcome = oracle_step(&cpu, page, page_len, &happening);
-    if (outcome.answer != 0)
-        put_cpu(record, &cpu);
-    *first = outcome.first;
-    *second = outcome.second;
-    return outcome.answer;
+    return hand_over(outcome, &cpu, record, first, second);
+}
+
+uint32_t second_leave(uint8_t *record, size_t record_len, uint64_t *first, uint64_t *second)
+{
+    struct cpu cpu = edge_cpu(record, record_len);
+    struct outcome outcome = oracle_leave(&cpu);
+    return hand_over(outcome, &cpu, record, first, second);
 }
 
 uint32_t second_fresh(uint8_t *record, size_t record_len)

@@ -42,7 +42,15 @@
     X(DELIVERY_KEEPS, "delivery-keeps-request", "a delivery leaves the request bit set")         \
     X(DELIVERY_AGAIN, "delivery-stays-recognised", "a delivery leaves recognition on")           \
     X(EXIT_IN_GUEST, "exit-7-in-guest", "exit 7 leaves the processor in guest mode")             \
+    X(LEAVE_IN_ROOT, "leave-in-root", "a leave is taken in root mode too")                       \
+    X(LEAVE_GUEST, "leave-keeps-guest", "a leave keeps guest mode")                              \
+    X(LEAVE_RECOGNISED, "leave-keeps-recognition", "a leave keeps recognition on")               \
+    X(LEAVE_REQUEST, "leave-drops-rvi", "a leave makes RVI 0")                                   \
+    X(LEAVE_BOUNDS, "leave-takes-any-record", "a leave doesn't look at the record's bounds")     \
     X(MODE_FIRST, "mode-before-bounds", "refusal 3 is tested before refusal 2")                  \
+    X(PAGE_LAST, "page-length-after-bounds", "refusal 1 is tested after refusal 2")              \
+    X(RECORD_RESERVED, "record-reserved-taken", "a record's bytes 12 to 15 may be anything")     \
+    X(ENTRY_RESERVED, "entry-reserved-taken", "an entry's bytes 12 to 15 may be anything")       \
     X(BOUNDS_CR8, "bounds-cr8", "a CR8 value above 15 is taken")                                 \
     X(BOUNDS_VALUE, "bounds-write-value", "a write's value may exceed its size")                 \
     X(BOUNDS_ACTIVITY, "bounds-activity", "activity 4 is taken")

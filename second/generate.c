@@ -6,7 +6,7 @@
 
 #include <string.h>
 
-static const uint64_t usual_controls[] = {
+static const uint32_t usual_controls[] = {
     GG_USE_TPR_SHADOW,
     GG_USE_TPR_SHADOW | GG_VIRTUALIZE_APIC_ACCESSES,
     GG_USE_TPR_SHADOW | GG_VIRTUALIZE_APIC_ACCESSES | GG_APIC_REGISTER_VIRTUALIZATION,
@@ -20,11 +20,11 @@ static const uint64_t usual_controls[] = {
 
 enum { USUAL = sizeof usual_controls / sizeof usual_controls[0] };
 
-static uint64_t any_controls(struct random *r)
+static uint32_t any_controls(struct random *r)
 {
     if (random_one_in(r, 2))
-        return random_next(r) & GG_ALL_CONTROLS;
-    uint64_t controls = usual_controls[random_below(r, USUAL)];
+        return (uint32_t)random_next(r) & GG_ALL_CONTROLS;
+    uint32_t controls = usual_controls[random_below(r, USUAL)];
     if (random_one_in(r, 8))
         controls |= GG_INTERRUPT_WINDOW_EXITING;
     if (random_one_in(r, 4))
@@ -59,6 +59,7 @@ void generate_exits(struct random *r, uint64_t exits[4])
 static void any_record(struct random *r, struct gg_record *record)
 {
     uint64_t bits = random_next(r);
+    memset(record, 0, sizeof *record);
     record->mode = bits & 1;
     record->recognised = bits >> 1 & 1;
     record->rvi = (uint8_t)(bits >> 8);
@@ -114,8 +115,8 @@ void generate_state(struct random *r, struct trial *t)
 
 static struct gg_event any_entry(struct random *r)
 {
-    uint64_t exits[4], controls = any_controls(r);
-    uint32_t threshold = any_threshold(r);
+    uint64_t exits[4];
+    uint32_t controls = any_controls(r), threshold = any_threshold(r);
     generate_exits(r, exits);
     return gg_entry(controls, threshold, exits);
 }
@@ -263,7 +264,7 @@ static void fill_unnamed(struct random *r, struct gg_event *event)
         generate_exits(r, event->eoi_exit);
 }
 
-/* Most steps are in the mode that the event needs, a few are not. */
+/* Most steps are in the mode that their kind needs, a few are not. */
 static void suit_mode(struct random *r, struct trial *t, unsigned kind)
 {
     struct gg_record record = trial_record(t);
@@ -274,9 +275,13 @@ static void suit_mode(struct random *r, struct trial *t, unsigned kind)
 
 void generate_single(struct random *r, struct trial *t)
 {
-    unsigned kind = GG_ENTRY + random_below(r, GG_REQUEST);
+    unsigned kind = GG_ENTRY + random_below(r, KIND_LEAVE);
     generate_state(r, t);
     suit_mode(r, t, kind);
+    if (kind == KIND_LEAVE) {
+        t->operation = TRIAL_LEAVE;
+        return;
+    }
     struct gg_event event = generate_event(r, kind);
     if (random_one_in(r, 4))
         fill_unnamed(r, &event);

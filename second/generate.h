@@ -24,10 +24,10 @@ void generate_exits(struct random *r, uint64_t exits[4]);
 /* An event of a kind with every field in bounds, near the edges of the rules. */
 struct gg_event generate_event(struct random *r, unsigned kind);
 
-/* A single step from an arbitrary state. */
+/* A single event or leave from an arbitrary state. */
 void generate_single(struct random *r, struct trial *t);
 
-/* A single step with one to three things damaged. */
+/* A single event or leave with one to three things damaged, now and then with null pointers. */
 void generate_junk(struct random *r, struct trial *t);
 
 #endif

@@ -1,4 +1,4 @@
-/* Damage: wrong lengths, broken records, fields out of bounds. */
+/* Damage: wrong lengths, broken records, fields out of bounds, null pointers. */
 #include "generate.h"
 
 #include <string.h>
@@ -38,7 +38,15 @@ static void damage_recognised(struct random *r, struct trial *t)
 static void damage_record_flags(struct random *r, struct trial *t)
 {
     struct gg_record record = trial_record(t);
-    record.flags |= UINT64_C(1) << (9 + random_below(r, 55));
+    record.flags |= UINT32_C(1) << (9 + random_below(r, 23));
+    trial_set_record(t, &record);
+}
+
+static void damage_record_reserved(struct random *r, struct trial *t)
+{
+    struct gg_record record = trial_record(t);
+    uint32_t byte = random_below(r, 4);
+    record.reserved_zero[byte] ^= (uint8_t)(1u << random_below(r, 8));
     trial_set_record(t, &record);
 }
 
@@ -92,6 +100,14 @@ static void damage_value(struct random *r, struct trial *t)
     trial_set_event(t, &event);
 }
 
+/* In an entry these bits are reserved, elsewhere they are the value's upper half. */
+static void damage_event_reserved(struct random *r, struct trial *t)
+{
+    struct gg_event event = trial_event(t);
+    event.value ^= UINT64_C(1) << (32 + random_below(r, 32));
+    trial_set_event(t, &event);
+}
+
 static void damage_every_byte(struct random *r, struct trial *t)
 {
     for (size_t at = 0; at < GG_EVENT_LENGTH; at++)
@@ -106,14 +122,16 @@ static void damage_mode_of_event(struct random *r, struct trial *t)
 typedef void damage_function(struct random *r, struct trial *t);
 
 static damage_function *const damages[] = {
-    damage_page_length,     damage_record_length, damage_event_length, damage_mode,
-    damage_recognised,      damage_record_flags,  damage_kind,         damage_size,
-    damage_event_flags,     damage_detail,        damage_number,       damage_value,
-    damage_any_record_byte, damage_every_byte,    damage_mode_of_event,
+    damage_page_length,     damage_record_length,  damage_event_length,  damage_mode,
+    damage_recognised,      damage_record_flags,   damage_kind,          damage_size,
+    damage_event_flags,     damage_detail,         damage_number,        damage_value,
+    damage_any_record_byte, damage_every_byte,     damage_mode_of_event, damage_record_reserved,
+    damage_event_reserved,
 };
 
 enum { DAMAGES = sizeof damages / sizeof damages[0] };
 
+/* Null pointers come last, since a null pointer has length 0. */
 void generate_junk(struct random *r, struct trial *t)
 {
     generate_single(r, t);
@@ -121,4 +139,6 @@ void generate_junk(struct random *r, struct trial *t)
         damages[random_below(r, DAMAGES)](r, t);
     for (size_t at = GG_PAGE_LENGTH; at < t->page_len; at++)
         trial_page(t)[at] = (uint8_t)random_next(r);
+    if (random_one_in(r, 16))
+        trial_set_nulls(t, 1 + random_below(r, 7));
 }

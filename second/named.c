@@ -1,4 +1,4 @@
-/* Named cases; each expected number stands in document 01. */
+/* Named cases; each expected number stands in document 01, those of leave and of the bytes in the header. */
 #include "named.h"
 
 #include "edge.h"
@@ -25,7 +25,7 @@ static void write_eoi(struct stage *s)
 }
 
 /* The events of K1 under the given controls, up to its boundary, whose answer is left to the caller. */
-static void after_k1(struct stage *s, uint64_t controls)
+static void after_k1(struct stage *s, uint32_t controls)
 {
     stage_fresh(s);
     stage_step(s, gg_request(0x60));
@@ -148,9 +148,11 @@ static void k9(struct stage *s)
 static void k10(struct stage *s)
 {
     stage_guest(s, CONTROLS_R);
+    stage_set_priority(s, 0x5C000000, 0);
     stage_step(s, gg_memory_read(0x083, 1, 0));
-    expect_answer(s, GG_REDIRECTED, 0, 0);
+    expect_answer(s, GG_REDIRECTED, 0x5C, 0);
     stage_guest(s, CONTROLS_M);
+    stage_set_priority(s, 0x5C000000, 0);
     stage_step(s, gg_memory_read(0x083, 1, 0));
     expect_answer(s, GG_VM_EXIT, 44, 0x083);
 }
@@ -279,10 +281,9 @@ static void bochs_7(struct stage *s)
 /* Controls that fail several checks, with the first that fails. */
 static void bochs_8(struct stage *s)
 {
-    const uint64_t both = GG_VIRTUALIZE_APIC_ACCESSES | GG_VIRTUALIZE_X2APIC_MODE;
+    const uint32_t both = GG_VIRTUALIZE_APIC_ACCESSES | GG_VIRTUALIZE_X2APIC_MODE;
     const struct {
-        uint64_t controls;
-        uint32_t threshold, check;
+        uint32_t controls, threshold, check;
     } rows[] = {
         {both, 0, GG_CHECK_TPR_SHADOW_OFF},
         {both | GG_VIRTUAL_INTERRUPT_DELIVERY, 16, GG_CHECK_TPR_SHADOW_OFF},
@@ -328,6 +329,81 @@ static void fresh(struct stage *s)
     }
 }
 
+/* The guest with 60 requested and recognised, an EOI-exit bit and a threshold to keep. */
+static void with_60_recognised(struct stage *s)
+{
+    const uint64_t exits[4] = {0, 1, 0, UINT64_C(1) << 63};
+    stage_fresh(s);
+    stage_step(s, gg_request(0x60));
+    expect_quiet(s);
+    stage_step(s, gg_entry(CONTROLS_V, 5, exits));
+    expect_quiet(s);
+    expect_recognised(s, 1);
+}
+
+/* A leave drops recognition and keeps the request, which the next entry recognises again. */
+static void leave_recognised(struct stage *s)
+{
+    with_60_recognised(s);
+    struct trial kept = s->now;
+    struct gg_record outside = trial_record(&kept);
+    outside.mode = GG_ROOT;
+    outside.recognised = 0;
+    trial_set_record(&kept, &outside);
+    stage_leave(s);
+    expect_quiet(s);
+    expect_record(s, &kept);
+    expect_page(s, &kept);
+    stage_step(s, gg_entry(CONTROLS_V, 5, outside.eoi_exit));
+    expect_recognised(s, 1);
+    stage_step(s, OPEN_BOUNDARY);
+    expect_answer(s, GG_DELIVERED, 0x60, 0);
+}
+
+static void leave_in_root(struct stage *s)
+{
+    with_60_recognised(s);
+    stage_leave(s);
+    struct trial kept = s->now;
+    stage_leave(s);
+    expect_answer(s, GG_REFUSED, GG_REFUSED_MODE, 0);
+    expect_record(s, &kept);
+    expect_page(s, &kept);
+}
+
+static void leave_reserved(struct stage *s)
+{
+    for (unsigned byte = 0; byte < 4; byte++) {
+        with_60_recognised(s);
+        stage_set_reserved(s, byte, 1);
+        struct trial kept = s->now;
+        stage_leave(s);
+        expect_answer(s, GG_REFUSED, GG_REFUSED_BOUNDS, 0);
+        expect_record(s, &kept);
+    }
+}
+
+/* A reserved byte is refused in the record and in an entry; a value may use all eight bytes. */
+static void reserved(struct stage *s)
+{
+    stage_guest(s, CONTROLS_X2);
+    stage_step(s, gg_wrmsr(0x80B, UINT64_C(1) << 32));
+    expect_answer(s, GG_FAULT, 0, 0);
+    for (unsigned byte = 0; byte < 4; byte++) {
+        struct gg_event entry = gg_entry(CONTROLS_V, 0, NULL);
+        entry.value |= UINT64_C(1) << (32 + 8 * byte);
+        stage_fresh(s);
+        stage_step(s, entry);
+        expect_answer(s, GG_REFUSED, GG_REFUSED_BOUNDS, 0);
+        stage_set_reserved(s, byte, 1);
+        struct trial kept = s->now;
+        stage_step(s, gg_request(0x60));
+        expect_answer(s, GG_REFUSED, GG_REFUSED_BOUNDS, 0);
+        expect_record(s, &kept);
+        expect_page(s, &kept);
+    }
+}
+
 static const struct {
     const char *name;
     void (*play)(struct stage *s);
@@ -342,7 +418,7 @@ static const struct {
     {"K7", k7, "vector 0F exits, vector 10 is sent"},
     {"K8", k8, "PPR virtualization"},
     {"K9", k9, "CR8 below and at the threshold"},
-    {"K10", k10, "a read of 083 with and without control 3"},
+    {"K10", k10, "a read of 083, which isn't 0, with and without control 3"},
     {"K11", k11, "a write of 082 is stored, one of 0A0 isn't"},
     {"K12", k12, "vector 0 is requested and not recognised"},
     {"K3-EOI-EXIT", k3_with_exit, "K3 with EOI-exit bit 71"},
@@ -357,6 +433,10 @@ static const struct {
     {"BOCHS-8", bochs_8, "the order of the entry checks"},
     {"QEMU-1", qemu_1, "class 0 waits even where VPPR is 0"},
     {"FRESH", fresh, "the fresh record and its length"},
+    {"LEAVE", leave_recognised, "a leave drops recognition and nothing else"},
+    {"LEAVE-IN-ROOT", leave_in_root, "a leave in root mode is refusal 3"},
+    {"LEAVE-RESERVED", leave_reserved, "a leave with a reserved byte is refusal 2"},
+    {"RESERVED", reserved, "bytes 12 to 15 of a record and of an entry are 0"},
 };
 
 unsigned named_run(void)

@@ -26,7 +26,7 @@ static bool open_row(unsigned row, bool write)
     return false;
 }
 
-bool open_offset(uint64_t controls, unsigned offset, bool write)
+bool open_offset(uint32_t controls, unsigned offset, bool write)
 {
     if (in(controls, REGISTERS))
         return offset % 16 < 4 && open_row(offset - offset % 16, write);

@@ -6,6 +6,6 @@
 #include <stdint.h>
 
 /* Whether an offset may be redirected; without control 3 only a register's first byte may. */
-bool open_offset(uint64_t controls, unsigned offset, bool write);
+bool open_offset(uint32_t controls, unsigned offset, bool write);
 
 #endif

@@ -1,4 +1,4 @@
-/* Document 01's rules: the five procedures and the events. */
+/* Document 01's rules: the five procedures and the events; and the leave, as the header states it. */
 #include "oracle.h"
 
 #include "bounds.h"
@@ -30,11 +30,16 @@ static struct outcome passthrough(void)
     return answer(PASSTHROUGH, 0, 0);
 }
 
-/* Every exit leaves the guest and drops recognition. */
+/* Every way out of the guest ends in root mode with recognition off. */
+static void to_root(struct cpu *cpu)
+{
+    cpu->mode = 0;
+    cpu->recognised = 0;
+}
+
 static struct outcome leave(struct apic *a, unsigned reason, uint64_t qualification)
 {
-    a->cpu->mode = 0;
-    a->cpu->recognised = 0;
+    to_root(a->cpu);
     return answer(EXITED, reason, qualification);
 }
 
@@ -111,7 +116,7 @@ static struct outcome self_ipi(struct apic *a, unsigned vector)
 /* The number of the first entry check that fails, 0 where none does. */
 static unsigned failing_check(const struct happening *e)
 {
-    uint64_t c = e->value;
+    uint32_t c = (uint32_t)e->value;
     bool shadow = in(c, SHADOW), vid = in(c, DELIVERY);
     bool both = in(c, ACCESSES) && in(c, X2APIC);
     if (FAULT(CHECK_ORDER) && both)
@@ -131,7 +136,7 @@ static struct outcome entry(struct apic *a, const struct happening *e)
     if (check)
         return answer(REFUSED, 4, check);
     struct cpu before = *a->cpu;
-    a->cpu->controls = e->value;
+    a->cpu->controls = (uint32_t)e->value;
     a->cpu->threshold = e->number;
     memcpy(a->cpu->eoi_exit, e->eoi_exit, sizeof e->eoi_exit);
     bool below = class_of(a->page[VTPR]) < e->number;
@@ -350,4 +355,20 @@ struct outcome oracle_step(struct cpu *cpu, uint8_t *page, size_t page_len, cons
     default:
         return request(&a, event->number);
     }
+}
+
+struct outcome oracle_leave(struct cpu *cpu)
+{
+    struct cpu before = *cpu;
+    unsigned refused = bounds_leave_refusal(cpu);
+    if (refused)
+        return answer(REFUSED, refused, 0);
+    to_root(cpu);
+    if (FAULT(LEAVE_GUEST))
+        cpu->mode = before.mode;
+    if (FAULT(LEAVE_RECOGNISED))
+        cpu->recognised = before.recognised;
+    if (FAULT(LEAVE_REQUEST))
+        cpu->rvi = 0;
+    return quiet();
 }

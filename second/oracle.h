@@ -1,4 +1,4 @@
-/* The second program: document 01's rules, written on their own from its sentences. */
+/* The second program: document 01's rules and the header's leave, written on their own from their sentences. */
 #ifndef ORACLE_H
 #define ORACLE_H
 
@@ -11,12 +11,13 @@ struct cpu {
     unsigned rvi;
     unsigned svi;
     unsigned recognised;
-    uint64_t controls;
     uint32_t threshold;
+    uint32_t controls;
+    uint32_t reserved; /* bytes 12 to 15, which must be 0 */
     uint8_t eoi_exit[32]; /* vector v at byte v / 8, bit v mod 8 */
 };
 
-/* What happens to the processor; which fields count depends on the kind. */
+/* What happens to the processor; which fields count depends on the kind. An entry's controls are a value. */
 struct happening {
     unsigned kind;
     unsigned size;
@@ -38,5 +39,8 @@ struct outcome {
 enum { NO_MODE = 255, NO_KIND = 0 };
 
 struct outcome oracle_step(struct cpu *cpu, uint8_t *page, size_t page_len, const struct happening *event);
+
+/* The guest leaves for a reason that is no event. */
+struct outcome oracle_leave(struct cpu *cpu);
 
 #endif

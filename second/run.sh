@@ -8,6 +8,12 @@ archive=${1:-$root/target/staticlib/libcapi.a}
 . "$root/second/toolchain.sh"
 . "$root/second/build.sh"
 
+# Without the library there is nothing to check.
+if ! need_archive "$archive"; then
+    echo "0 passed, 1 failed"
+    exit 1
+fi
+
 log=$out/log
 mkdir -p "$log"
 passed=0
@@ -36,9 +42,9 @@ simulator() {
         diff "$root/examples/simulator/expected.txt" "$out/simulator.txt"
 }
 
-# A fault counts as found only by a reported difference.
+# find_fault FAULT COMMAND: a fault counts as found only by a reported difference.
 find_fault() {
-    $RUN "$out/compare" --fault "$1" gate >"$out/fault.txt"
+    $RUN "$out/compare" --fault "$1" "$2" >"$out/fault.txt"
     status=$?
     cat "$out/fault.txt"
     grep -q '^difference at ' "$out/fault.txt" && return "$status"
@@ -56,10 +62,15 @@ expect 0 header-cpp build_header_cpp
 expect 0 build-compare build_compare "$archive"
 expect 0 gate $RUN "$out/compare" gate
 expect 0 named $RUN "$out/compare" named
+expect 0 null $RUN "$out/compare" null
+expect 0 matters $RUN "$out/compare" matters
 expect 0 fault-list sh -c '[ "$1" -ge 14 ]' - "$(faults | wc -l)"
 for fault in $(faults); do
-    expect 1 "fault-$fault" find_fault "$fault"
+    expect 1 "fault-$fault" find_fault "$fault" gate
 done
+expect 1 null-fault-page-length-after-bounds find_fault page-length-after-bounds null
+expect 1 matters-fault-hlt-is-shut find_fault hlt-is-shut matters
+expect 1 matters-fault-mov-ss-is-open find_fault mov-ss-is-open matters
 expect 0 build-simulator build_simulator "$archive"
 expect 0 simulator simulator
 

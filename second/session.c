@@ -8,6 +8,9 @@
 /* A session climbs for this many steps, then falls for as many. */
 enum { PHASE = 64 };
 
+/* One step in so many is a leave, which root mode refuses. */
+enum { LEAVES = 24 };
+
 void session_start(struct session *s, uint64_t number)
 {
     trial_fresh(&s->now);
@@ -23,10 +26,10 @@ bool session_is_wild(const struct session *s)
 
 static struct gg_event choose_entry(struct random *r, const struct session *s)
 {
-    static const uint64_t usual[] = {CONTROLS_M, CONTROLS_R, CONTROLS_X2,
+    static const uint32_t usual[] = {CONTROLS_M, CONTROLS_R, CONTROLS_X2,
                                      CONTROLS_X2 | GG_APIC_REGISTER_VIRTUALIZATION};
     uint64_t exits[4] = {0, 0, 0, 0};
-    uint64_t controls = random_one_in(r, 32) ? CONTROLS_V : usual[random_below(r, 4)];
+    uint32_t controls = random_one_in(r, 32) ? CONTROLS_V : usual[random_below(r, 4)];
     if (random_one_in(r, 16))
         controls |= GG_INTERRUPT_WINDOW_EXITING;
     if (random_one_in(r, 16))
@@ -126,12 +129,12 @@ void session_choose(struct random *r, struct session *s)
     if (random_one_in(r, 32))
         spoil(r, s, &event);
     trial_set_event(&s->now, &event);
+    s->now.operation = random_one_in(r, LEAVES) ? TRIAL_LEAVE : TRIAL_STEP;
 }
 
 const char *session_advance(struct session *s, const struct side *side)
 {
-    struct gg_event event = trial_event(&s->now);
     trial_copy(&s->now, &side->trial);
     s->step++;
-    return session_is_wild(s) ? NULL : audit_step(&s->audit, &event, side);
+    return session_is_wild(s) ? NULL : audit_step(&s->audit, side);
 }

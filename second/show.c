@@ -9,9 +9,10 @@
 
 const char *show_kind(unsigned kind)
 {
-    static const char *const names[] = {"unknown",  "entry", "memory read", "memory write", "to CR8",
-                                        "from CR8", "RDMSR", "WRMSR",       "boundary",     "request"};
-    return names[kind < COUNT(names) ? kind : 0];
+    static const char *const names[KINDS] = {"unknown", "entry",    "memory read", "memory write",
+                                             "to CR8",  "from CR8", "RDMSR",       "WRMSR",
+                                             "boundary", "request", "leave"};
+    return names[kind];
 }
 
 const char *show_answer(unsigned number)
@@ -49,11 +50,11 @@ static void show_bytes(const char *name, const uint8_t *bytes, size_t count)
     printf("\n");
 }
 
-static void show_controls(uint64_t flags)
+static void show_controls(uint32_t flags)
 {
     static const char *const names[] = {"shadow",   "APIC-accesses", "x2APIC",   "registers", "VID",
                                         "external", "window",        "CR8-load", "CR8-store"};
-    printf("%03" PRIX64 " (", flags);
+    printf("%03" PRIX32 " (", flags);
     for (unsigned bit = 0; bit < COUNT(names); bit++)
         if (flags >> bit & 1)
             printf(" %s", names[bit]);
@@ -77,20 +78,31 @@ static void show_record(const struct trial *t)
            record.rvi, record.svi, record.recognised, record.threshold);
     show_controls(record.flags);
     printf("\n");
+    show_bytes("reserved", record.reserved_zero, sizeof record.reserved_zero);
     show_bytes("EOI exits", t->record_bytes + GUARD + offsetof(struct gg_record, eoi_exit), 32);
 }
 
 static void show_event(const struct trial *t)
 {
     struct gg_event event = trial_event(t);
+    if (t->operation == TRIAL_LEAVE) {
+        printf("  the guest leaves: no page and no event are handed over\n");
+        return;
+    }
     printf("  event: %s, size %u, flags %02X, detail %u, number %" PRIX32 ", value %" PRIX64 "\n",
-           show_kind(event.kind), event.size, event.flags, event.detail, event.number, event.value);
+           show_kind(trial_kind(t)), event.size, event.flags, event.detail, event.number, event.value);
     if (event.kind == GG_ENTRY) {
         printf("  entry's controls ");
-        show_controls(event.value);
+        show_controls((uint32_t)event.value);
+        printf(", reserved %08" PRIX32, (uint32_t)(event.value >> 32));
         printf(", threshold %" PRIX32 "\n", event.number);
     }
     show_bytes("event bytes", t->event_bytes + GUARD, GG_EVENT_LENGTH);
+}
+
+static const char *show_null(const struct trial *t, unsigned part)
+{
+    return t->nulls & part ? " (null)" : "";
 }
 
 void show_trial(const struct trial *t)
@@ -100,7 +112,8 @@ void show_trial(const struct trial *t)
         uint32_t offset;
     } words[] = {{"VTPR", GG_VTPR}, {"VPPR", GG_VPPR}, {"VEOI", GG_VEOI}, {"VICR_LO", GG_VICR_LO},
                  {"VICR_HI", GG_VICR_HI}};
-    printf("  lengths: page %zu, record %zu, event %zu\n", t->page_len, t->record_len, t->event_len);
+    printf("  lengths: page %zu%s, record %zu%s, event %zu%s\n", t->page_len, show_null(t, NULL_PAGE),
+           t->record_len, show_null(t, NULL_RECORD), t->event_len, show_null(t, NULL_EVENT));
     show_record(t);
     printf("  page:");
     for (size_t i = 0; i < COUNT(words); i++)

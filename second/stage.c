@@ -12,7 +12,7 @@ void stage_fresh(struct stage *s)
     trial_fresh(&s->now);
 }
 
-void stage_guest(struct stage *s, uint64_t controls)
+void stage_guest(struct stage *s, uint32_t controls)
 {
     trial_fresh(&s->now);
     struct gg_record record = trial_record(&s->now);
@@ -43,15 +43,21 @@ void stage_set_eoi_exit(struct stage *s, uint8_t vector)
     trial_set_record(&s->now, &record);
 }
 
+void stage_set_reserved(struct stage *s, unsigned byte, uint8_t value)
+{
+    struct gg_record record = trial_record(&s->now);
+    record.reserved_zero[byte] = value;
+    trial_set_record(&s->now, &record);
+}
+
 static void fail(struct stage *s, const char *who, const char *what, uint64_t got, uint64_t wanted)
 {
-    printf("  %s: %s: %s is %" PRIX64 "H, document 01 says %" PRIX64 "H\n", s->name, who, what, got, wanted);
+    printf("  %s: %s: %s is %" PRIX64 "H and has to be %" PRIX64 "H\n", s->name, who, what, got, wanted);
     s->failures++;
 }
 
-void stage_step(struct stage *s, struct gg_event event)
+static void play(struct stage *s)
 {
-    trial_set_event(&s->now, &event);
     pair_run(&s->pair, &s->now);
     if (!pair_same(&s->pair)) {
         printf("  %s: model and second program differ\n", s->name);
@@ -61,6 +67,19 @@ void stage_step(struct stage *s, struct gg_event event)
         s->failures++;
     }
     trial_copy(&s->now, &s->pair.model.trial);
+}
+
+void stage_step(struct stage *s, struct gg_event event)
+{
+    trial_set_event(&s->now, &event);
+    s->now.operation = TRIAL_STEP;
+    play(s);
+}
+
+void stage_leave(struct stage *s)
+{
+    s->now.operation = TRIAL_LEAVE;
+    play(s);
 }
 
 /* Holds one number of each program to the expected one. */
@@ -125,4 +144,11 @@ void expect_page(struct stage *s, const struct trial *kept)
     size_t size = trial_page_used(kept);
     both(s, "the page unchanged", !memcmp(s->pair.model.trial.page_bytes, kept->page_bytes, size),
          !memcmp(s->pair.second.trial.page_bytes, kept->page_bytes, size), 1);
+}
+
+void expect_record(struct stage *s, const struct trial *kept)
+{
+    size_t size = sizeof kept->record_bytes;
+    both(s, "the record as it should be", !memcmp(s->pair.model.trial.record_bytes, kept->record_bytes, size),
+         !memcmp(s->pair.second.trial.record_bytes, kept->record_bytes, size), 1);
 }

@@ -13,17 +13,19 @@ struct stage {
 
 /* Sets the stage: fresh, or in guest mode under some controls with zeros elsewhere. */
 void stage_fresh(struct stage *s);
-void stage_guest(struct stage *s, uint64_t controls);
+void stage_guest(struct stage *s, uint32_t controls);
 
 /* Changes the state before a step. */
 void stage_set_priority(struct stage *s, uint32_t vtpr, uint8_t svi);
 void stage_set_threshold(struct stage *s, uint32_t threshold);
 void stage_set_eoi_exit(struct stage *s, uint8_t vector);
+void stage_set_reserved(struct stage *s, unsigned byte, uint8_t value);
 
-/* Carries out an event on both programs and hands their state on. */
+/* Carries out an event, or a leave, on both programs and hands their state on. */
 void stage_step(struct stage *s, struct gg_event event);
+void stage_leave(struct stage *s);
 
-/* What both programs have to show after the last step; numbers as document 01 has them. */
+/* What both programs have to show after the last step. */
 void expect_answer(struct stage *s, uint32_t number, uint64_t first, uint64_t second);
 void expect_quiet(struct stage *s);
 void expect_word(struct stage *s, uint32_t offset, uint32_t value);
@@ -33,7 +35,8 @@ void expect_recognised(struct stage *s, uint8_t recognised);
 void expect_mode(struct stage *s, uint8_t mode);
 void expect_true(struct stage *s, int truth, const char *what);
 
-/* The page has to be that of a state kept before. */
+/* The page, or the record, has to be that of a state kept before. */
 void expect_page(struct stage *s, const struct trial *kept);
+void expect_record(struct stage *s, const struct trial *kept);
 
 #endif

@@ -16,13 +16,19 @@ static uint32_t digit(uint64_t *index, uint32_t bound)
 }
 
 /* Controls of a set, each turned on or off by a digit of its own. */
-static uint64_t choices(uint64_t *index, uint64_t set)
+static uint32_t choices(uint64_t *index, uint32_t set)
 {
-    uint64_t chosen = 0;
-    for (uint64_t control = 1; control <= GG_ALL_CONTROLS; control <<= 1)
+    uint32_t chosen = 0;
+    for (uint32_t control = 1; control <= GG_ALL_CONTROLS; control <<= 1)
         if ((set & control) && digit(index, 2))
             chosen |= control;
     return chosen;
+}
+
+/* A word with one bit set, or with none. */
+static uint32_t one_bit(uint64_t *index)
+{
+    return (uint32_t)(UINT64_C(1) << digit(index, 33));
 }
 
 /* Vectors in both registers, RVI and SVI at their highest, a task priority below. */
@@ -40,7 +46,7 @@ static void busy_page(struct trial *t, uint8_t *rvi, uint8_t *svi)
 }
 
 /* Guest mode under some controls on a busy page. */
-static void busy_guest(struct trial *t, uint64_t controls)
+static void busy_guest(struct trial *t, uint32_t controls)
 {
     trial_fresh(t);
     struct gg_record record = trial_record(t);
@@ -92,11 +98,11 @@ enum { ICR_CASES = 33 * 33 * COUNT(icr_bases) * 3 * 8 };
 /* Every bit flipped alone and every pair, written whole or by its low bytes only. */
 static void sweep_icr(struct random *r, uint64_t index, struct trial *t)
 {
-    uint32_t one = digit(&index, 33), other = digit(&index, 33);
+    uint32_t one = one_bit(&index), other = one_bit(&index);
     uint32_t icr = icr_bases[digit(&index, COUNT(icr_bases))];
     uint8_t size = (uint8_t)(1u << digit(&index, 3));
     uint32_t mask = 0xFFFFFFFFu >> (32 - 8 * size);
-    icr ^= (uint32_t)(UINT64_C(1) << one) ^ (uint32_t)(UINT64_C(1) << other);
+    icr ^= one ^ other;
     busy_guest(t, GG_VIRTUALIZE_APIC_ACCESSES | choices(&index, REGISTER_CONTROLS));
     trial_put_word(t, GG_VICR_LO, (icr & ~mask) | ((uint32_t)random_next(r) & mask));
     struct gg_event event = gg_memory_write(GG_VICR_LO, size, icr & mask, 0);
@@ -134,7 +140,7 @@ static void sweep_threshold(struct random *r, uint64_t index, struct trial *t)
     uint32_t which = digit(&index, THRESHOLDS), high = digit(&index, 16), vtpr = 16 * high;
     uint32_t threshold = which < 18 ? which : far_thresholds[which - 18], way = digit(&index, 4);
     vtpr += 15 * digit(&index, 2);
-    uint64_t controls = choices(&index, GG_USE_TPR_SHADOW | GG_VIRTUAL_INTERRUPT_DELIVERY);
+    uint32_t controls = choices(&index, GG_USE_TPR_SHADOW | GG_VIRTUAL_INTERRUPT_DELIVERY);
     controls |= GG_EXTERNAL_INTERRUPT_EXITING;
     controls |= digit(&index, 2) ? GG_VIRTUALIZE_X2APIC_MODE : GG_VIRTUALIZE_APIC_ACCESSES;
     busy_guest(t, controls);
@@ -230,7 +236,7 @@ enum { ENTRY_CASES = 512 * 5 * 4 * 3 * 2 };
 static void sweep_entry(struct random *r, uint64_t index, struct trial *t)
 {
     static const uint8_t rvis[] = {0x00, 0x5F, 0xFF};
-    uint64_t controls = digit(&index, 512);
+    uint32_t controls = digit(&index, 512);
     uint32_t threshold = entry_thresholds[digit(&index, 5)];
     uint8_t vtpr = entry_vtpr[digit(&index, 4)];
     busy_guest(t, GG_CR8_STORE_EXITING);
@@ -267,21 +273,26 @@ static void sweep_priority(struct random *r, uint64_t index, struct trial *t)
 static const uint16_t page_lengths[] = {4096, 0, 1, 4095, 4097, 8192};
 static const uint8_t small_lengths[] = {48, 0, 47, 49, 64};
 static const uint8_t truths[] = {0, 1, 2, 255};
-static const uint64_t stray_flags[] = {0, UINT64_C(1) << 9, UINT64_C(1) << 63};
+static const struct {
+    uint32_t flags;
+    uint8_t reserved_zero[4];
+} strays[] = {{0, {0}}, {UINT32_C(1) << 9, {0}}, {UINT32_C(1) << 31, {0}}, {0, {1}}, {0, {0, 0, 0, 0x80}}};
 
-enum { REFUSAL_CASES = 6 * 5 * 5 * 4 * 4 * 3 * 12 };
+enum { REFUSAL_CASES = 6 * 5 * 5 * 4 * 4 * COUNT(strays) * 12 };
 
 /* Every pair of reasons to refuse, so that their order shows. */
 static void sweep_refusal(struct random *r, uint64_t index, struct trial *t)
 {
-    generate_single(r, t);
+    generate_state(r, t);
     struct gg_record record = trial_record(t);
     trial_set_page_length(t, page_lengths[digit(&index, 6)]);
     t->record_len = small_lengths[digit(&index, 5)];
     t->event_len = small_lengths[digit(&index, 5)];
     record.mode = truths[digit(&index, 4)];
     record.recognised = truths[digit(&index, 4)];
-    record.flags |= stray_flags[digit(&index, 3)];
+    uint32_t stray = digit(&index, COUNT(strays));
+    record.flags |= strays[stray].flags;
+    memcpy(record.reserved_zero, strays[stray].reserved_zero, sizeof record.reserved_zero);
     trial_set_record(t, &record);
     uint32_t kind = digit(&index, 12);
     struct gg_event event = generate_event(r, kind);
@@ -315,11 +326,45 @@ static void sweep_field(struct random *r, uint64_t index, struct trial *t)
     trial_set_event(t, &event);
 }
 
+enum { RESERVED_CASES = 33 * 33 * 9 * 2 };
+
+/* Every bit of bytes 12 to 15, in the record and in the event, for every kind. */
+static void sweep_reserved(struct random *r, uint64_t index, struct trial *t)
+{
+    uint32_t in_record = one_bit(&index), in_event = one_bit(&index), kind = GG_ENTRY + digit(&index, 9);
+    generate_state(r, t);
+    struct gg_record record = trial_record(t);
+    record.mode = (uint8_t)digit(&index, 2);
+    memcpy(record.reserved_zero, &in_record, sizeof in_record);
+    trial_set_record(t, &record);
+    struct gg_event event = generate_event(r, kind);
+    event.value |= (uint64_t)in_event << 32;
+    trial_set_event(t, &event);
+}
+
+enum { LEAVE_CASES = 33 * 33 * 4 * 4 * COUNT(small_lengths) };
+
+/* Every bit of a record's flags and of its reserved bytes, with every other reason to refuse a leave. */
+static void sweep_leave(struct random *r, uint64_t index, struct trial *t)
+{
+    uint32_t flag = one_bit(&index), reserved = one_bit(&index);
+    generate_state(r, t);
+    struct gg_record record = trial_record(t);
+    record.flags |= flag;
+    memcpy(record.reserved_zero, &reserved, sizeof reserved);
+    record.mode = truths[digit(&index, 4)];
+    record.recognised = truths[digit(&index, 4)];
+    trial_set_record(t, &record);
+    t->record_len = small_lengths[digit(&index, COUNT(small_lengths))];
+    t->operation = TRIAL_LEAVE;
+}
+
 const struct sweep sweeps[] = {
     {"memory", MEMORY_CASES, sweep_memory},       {"icr", ICR_CASES, sweep_icr},
     {"msr", MSR_CASES, sweep_msr},                {"threshold", THRESHOLD_CASES, sweep_threshold},
     {"vector", VECTOR_CASES, sweep_vector},       {"cr8", CR8_CASES, sweep_cr8},
     {"boundary", BOUNDARY_CASES, sweep_boundary}, {"entry", ENTRY_CASES, sweep_entry},
     {"priority", PRIORITY_CASES, sweep_priority}, {"refusal", REFUSAL_CASES, sweep_refusal},
-    {"field", FIELD_CASES, sweep_field},          {NULL, 0, NULL},
+    {"field", FIELD_CASES, sweep_field},          {"reserved", RESERVED_CASES, sweep_reserved},
+    {"leave", LEAVE_CASES, sweep_leave},          {NULL, 0, NULL},
 };

@@ -14,9 +14,9 @@ static const unsigned exit_reasons[] = {
     GG_EXIT_APIC_ACCESS,      GG_EXIT_VIRTUALIZED_EOI,  GG_EXIT_APIC_WRITE,
 };
 
-/* The answers that document 01 lets each kind have. */
+/* The answers that each kind can have. */
 static const unsigned possible[KINDS] = {
-    [0] = BIT(GG_REFUSED),
+    [KIND_UNKNOWN] = BIT(GG_REFUSED),
     [GG_ENTRY] = BIT(GG_REFUSED) | BIT(GG_VM_EXIT) | BIT(GG_QUIET),
     [GG_MEMORY_READ] = BIT(GG_REFUSED) | BIT(GG_REDIRECTED) | BIT(GG_PASSTHROUGH) | BIT(GG_VM_EXIT),
     [GG_MEMORY_WRITE] = BIT(GG_REFUSED) | BIT(GG_PASSTHROUGH) | BIT(GG_VM_EXIT) | BIT(GG_QUIET),
@@ -26,12 +26,12 @@ static const unsigned possible[KINDS] = {
     [GG_WRMSR] = BIT(GG_REFUSED) | BIT(GG_PASSTHROUGH) | BIT(GG_FAULT) | BIT(GG_VM_EXIT) | BIT(GG_QUIET),
     [GG_BOUNDARY] = BIT(GG_REFUSED) | BIT(GG_VM_EXIT) | BIT(GG_DELIVERED) | BIT(GG_QUIET),
     [GG_REQUEST] = BIT(GG_REFUSED) | BIT(GG_QUIET),
+    [KIND_LEAVE] = BIT(GG_REFUSED) | BIT(GG_QUIET),
 };
 
 void tally_add(struct tally *tally, const struct trial *before, const struct gg_answer *answer)
 {
-    unsigned kind = trial_event(before).kind;
-    kind = kind < KINDS ? kind : 0;
+    unsigned kind = trial_kind(before);
     tally->steps++;
     tally->kinds[kind]++;
     tally->answers[answer->number % ANSWERS]++;
@@ -62,7 +62,7 @@ static void print_cells(const struct tally *tally)
 
 void tally_print(const struct tally *tally)
 {
-    printf("steps: %" PRIu64 "\nevent kinds:\n", tally->steps);
+    printf("steps: %" PRIu64 "\nkinds:\n", tally->steps);
     for (unsigned kind = 0; kind < KINDS; kind++)
         printf("  %-24s %12" PRIu64 "\n", show_kind(kind), tally->kinds[kind]);
     printf("answers:\n");
@@ -101,7 +101,7 @@ static unsigned missing_cells(const struct tally *tally)
 {
     unsigned found = 0;
     for (unsigned kind = 0; kind < KINDS; kind++) {
-        found += missing(tally->kinds[kind], "event kind", show_kind(kind));
+        found += missing(tally->kinds[kind], "kind", show_kind(kind));
         for (unsigned number = 0; number < ANSWERS; number++)
             if (possible[kind] & BIT(number))
                 found += missing(tally->cells[kind][number], show_kind(kind), show_answer(number));

@@ -4,7 +4,7 @@
 
 #include "trial.h"
 
-enum { KINDS = 10, ANSWERS = 7, REASONS = 64, REFUSALS = 5, CHECKS = 5 };
+enum { ANSWERS = 7, REASONS = 64, REFUSALS = 5, CHECKS = 5 };
 
 struct tally {
     uint64_t steps;

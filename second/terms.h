@@ -16,7 +16,7 @@ enum { FETCH = 1, ALREADY = 2 };
 enum { MSR_TPR = 0x808, MSR_EOI = 0x80B, MSR_SELF_IPI = 0x83F };
 
 /* Whether a set of controls has one. */
-static inline bool in(uint64_t controls, unsigned bit)
+static inline bool in(uint32_t controls, unsigned bit)
 {
     return controls >> bit & 1;
 }

@@ -18,6 +18,8 @@ void trial_fresh(struct trial *t)
     memset(t->page_bytes + GUARD + GG_PAGE_LENGTH, GUARD_BYTE, TAIL);
     memset(t->record_bytes + GUARD, 0, GG_RECORD_LENGTH);
     memset(t->event_bytes + GUARD, 0, GG_EVENT_LENGTH);
+    t->operation = TRIAL_STEP;
+    t->nulls = 0;
     t->page_len = GG_PAGE_LENGTH;
     t->record_len = GG_RECORD_LENGTH;
     t->event_len = GG_EVENT_LENGTH;
@@ -28,6 +30,25 @@ void trial_set_page_length(struct trial *t, size_t page_len)
     t->page_len = page_len;
     if (page_len > GG_PAGE_LENGTH)
         memset(t->page_bytes + GUARD + GG_PAGE_LENGTH, GUARD_BYTE, PAGE_ROOM - GG_PAGE_LENGTH + TAIL);
+}
+
+void trial_set_nulls(struct trial *t, unsigned nulls)
+{
+    t->nulls = nulls;
+    if (nulls & NULL_PAGE)
+        t->page_len = 0;
+    if (nulls & NULL_RECORD)
+        t->record_len = 0;
+    if (nulls & NULL_EVENT)
+        t->event_len = 0;
+}
+
+unsigned trial_kind(const struct trial *t)
+{
+    uint8_t kind = t->event_bytes[GUARD];
+    if (t->operation == TRIAL_LEAVE)
+        return KIND_LEAVE;
+    return kind <= GG_REQUEST ? kind : KIND_UNKNOWN;
 }
 
 size_t trial_page_used(const struct trial *t)
@@ -107,23 +128,31 @@ unsigned trial_count(const struct trial *t, uint32_t base)
     return count;
 }
 
-typedef uint32_t step_function(uint8_t *, size_t, uint8_t *, size_t, const uint8_t *, size_t, uint64_t *,
-                               uint64_t *);
+const struct program the_model = {gg_step, gg_leave, gg_fresh};
+const struct program the_second = {second_step, second_leave, second_fresh};
 
-static void side_run(struct side *side, const struct trial *before, step_function *step)
+static uint32_t ask(const struct program *program, struct trial *t, struct gg_answer *answer)
 {
-    struct trial *t = &side->trial;
-    trial_copy(t, before);
+    uint8_t *page = t->nulls & NULL_PAGE ? NULL : t->page_bytes + GUARD;
+    uint8_t *record = t->nulls & NULL_RECORD ? NULL : t->record_bytes + GUARD;
+    const uint8_t *event = t->nulls & NULL_EVENT ? NULL : t->event_bytes + GUARD;
+    if (t->operation == TRIAL_LEAVE)
+        return program->leave(record, t->record_len, &answer->first, &answer->second);
+    return program->step(page, t->page_len, record, t->record_len, event, t->event_len, &answer->first,
+                         &answer->second);
+}
+
+static void side_run(struct side *side, const struct trial *before, const struct program *program)
+{
+    trial_copy(&side->trial, before);
     side->answer.first = side->answer.second = UNWRITTEN;
-    side->answer.number = step(t->page_bytes + GUARD, t->page_len, t->record_bytes + GUARD, t->record_len,
-                               t->event_bytes + GUARD, t->event_len, &side->answer.first,
-                               &side->answer.second);
+    side->answer.number = ask(program, &side->trial, &side->answer);
 }
 
 void pair_run(struct pair *pair, const struct trial *before)
 {
-    side_run(&pair->model, before, gg_step);
-    side_run(&pair->second, before, second_step);
+    side_run(&pair->model, before, &the_model);
+    side_run(&pair->second, before, &the_second);
 }
 
 bool answer_same(const struct gg_answer *left, const struct gg_answer *right)

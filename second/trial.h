@@ -9,8 +9,18 @@
 /* Guard bytes around a slice show a write outside it; the odd lead puts slices at odd addresses. */
 enum { GUARD = 33, TAIL = 31, PAGE_ROOM = 8192, SMALL_ROOM = 64 };
 
+/* What is asked of a program: to carry out the event, or to let the guest leave. */
+enum { TRIAL_STEP, TRIAL_LEAVE };
+
+/* Which of page, record and event are null, as bits. */
+enum { NULL_PAGE = 1, NULL_RECORD = 2, NULL_EVENT = 4 };
+
+/* What a trial counts as: its event's kind, a kind that is none, or a leave, which has no event. */
+enum { KIND_UNKNOWN = 0, KIND_LEAVE = GG_REQUEST + 1, KINDS };
+
 /* Page, record and event bytes with the lengths that are handed over; the page stands last. */
 struct trial {
+    uint64_t operation, nulls;
     size_t page_len, record_len, event_len;
     uint8_t record_bytes[GUARD + SMALL_ROOM + TAIL];
     uint8_t event_bytes[GUARD + SMALL_ROOM + TAIL];
@@ -27,6 +37,16 @@ struct pair {
     struct side model, second;
 };
 
+/* A program behind the bytes. */
+struct program {
+    uint32_t (*step)(uint8_t *page, size_t page_len, uint8_t *record, size_t record_len,
+                     const uint8_t *event, size_t event_len, uint64_t *first, uint64_t *second);
+    uint32_t (*leave)(uint8_t *record, size_t record_len, uint64_t *first, uint64_t *second);
+    uint32_t (*fresh)(uint8_t *record, size_t record_len);
+};
+
+extern const struct program the_model, the_second;
+
 static inline uint8_t *trial_page(struct trial *t)
 {
     return t->page_bytes + GUARD;
@@ -42,6 +62,12 @@ void trial_fresh(struct trial *t);
 
 /* Gives the page another length; bytes past the usual ones are guard bytes. */
 void trial_set_page_length(struct trial *t, size_t page_len);
+
+/* Makes some of page, record and event null, with length 0. */
+void trial_set_nulls(struct trial *t, unsigned nulls);
+
+/* KIND_UNKNOWN, GG_ENTRY to GG_REQUEST, or KIND_LEAVE. */
+unsigned trial_kind(const struct trial *t);
 
 /* The bytes of page_bytes that are in use, guards included. */
 size_t trial_page_used(const struct trial *t);

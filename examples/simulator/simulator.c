@@ -1,7 +1,8 @@
 /*
- * A camera platform in small: a guest driver wakes its tuner by a self-IPI, a frame-end
- * interrupt nests over it, both are retired. Then a driver made from an outdated register
- * map sends the same wake-up call with bit 13 set, and the hypervisor gets it instead.
+ * A camera platform in small: a guest driver wakes its tuner by a self-IPI, executes CPUID, which
+ * leaves the guest without the model, and is nested over by a frame-end interrupt; all are retired.
+ * Then a driver made from an outdated register map sends the same wake-up call with bit 13 set,
+ * and the hypervisor gets it instead.
  */
 #include "garlandgrid.h"
 
@@ -61,10 +62,9 @@ static void print_vectors(const char *name, uint32_t base)
         printf(" nothing");
 }
 
-/* Carries out one event and prints what it does in words and numbers. */
-static struct gg_answer step(const char *words, struct gg_event event)
+/* Prints in words and numbers what has just been carried out. */
+static struct gg_answer show(const char *words, struct gg_answer answer)
 {
-    struct gg_answer answer = gg_run(page, sizeof page, &record, &event);
     printf("%s\n    ", words);
     print_answer(answer);
     printf("\n    %s, RVI %02XH, SVI %02XH, VPPR %02" PRIX32 "H", record.mode == GG_GUEST ? "guest" : "root",
@@ -79,6 +79,12 @@ static struct gg_answer step(const char *words, struct gg_event event)
     return answer;
 }
 
+/* Carries out one event. */
+static struct gg_answer step(const char *words, struct gg_event event)
+{
+    return show(words, gg_run(page, sizeof page, &record, &event));
+}
+
 static struct gg_event enter(void)
 {
     return gg_entry(GG_USE_TPR_SHADOW | GG_VIRTUALIZE_APIC_ACCESSES | GG_VIRTUAL_INTERRUPT_DELIVERY |
@@ -86,51 +92,70 @@ static struct gg_event enter(void)
                     0, NULL);
 }
 
-/* The driver's store to the interrupt command register. */
-static struct gg_event command(uint32_t value)
+/* An instruction of the guest: CPUID, or a store to the APIC-access page. */
+struct instruction {
+    const char *words;
+    enum { CPUID, STORE } operation;
+    uint32_t offset, value;
+};
+
+static void execute(const struct instruction *instruction)
 {
-    return gg_memory_write(GG_VICR_LO, 4, value, 0);
+    if (instruction->operation == CPUID) {
+        show(instruction->words, gg_run_leave(&record));
+        printf("    the hypervisor emulates the instruction\n");
+        return;
+    }
+    struct gg_answer answer = step(instruction->words,
+                                   gg_memory_write(instruction->offset, 4, instruction->value, 0));
+    if (answer.number == GG_VM_EXIT && answer.first == GG_EXIT_APIC_WRITE)
+        printf("    nothing is requested: the write is the hypervisor's to handle, and this one drops it\n");
 }
 
-static struct gg_event end_of_interrupt(void)
+/* The instruction loop: an instruction, the way back where it leaves the guest, the boundary after it. */
+static void run(const struct instruction *code, size_t count)
 {
-    return gg_memory_write(GG_VEOI, 4, 0, 0);
-}
-
-static struct gg_event next_instruction(void)
-{
-    return gg_boundary(GG_IF, GG_ACTIVE);
+    for (size_t i = 0; i < count; i++) {
+        execute(&code[i]);
+        if (record.mode == GG_ROOT)
+            step("The hypervisor enters the guest again.", enter());
+        if (gg_boundary_matters(&record, GG_IF, GG_ACTIVE))
+            step("The boundary after it is open and matters.", gg_boundary(GG_IF, GG_ACTIVE));
+        else
+            printf("    the boundary after it does nothing and isn't sent\n");
+    }
 }
 
 /* The call as the current register map has it. */
 static void current_driver(void)
 {
+    static const struct instruction code[] = {
+        {"The driver writes 00040061H to VICR_LO: the tuner's wake-up call.", STORE, GG_VICR_LO,
+         TO_SELF | WAKE_UP},
+        {"In the handler, statistics of the same class ask for service.", STORE, GG_VICR_LO,
+         TO_SELF | STATISTICS},
+        {"The handler executes CPUID, which leaves the guest; the statistics stay requested.", CPUID, 0, 0},
+        {"The sensor's frame end asks for service, of a higher class.", STORE, GG_VICR_LO,
+         TO_SELF | FRAME_END},
+        {"The frame-end handler writes EOI.", STORE, GG_VEOI, 0},
+        {"The wake-up handler writes EOI; the statistics' turn has come.", STORE, GG_VEOI, 0},
+        {"Their handler writes EOI.", STORE, GG_VEOI, 0},
+    };
     printf("A driver made from the current register map\n\n");
-    step("The hypervisor enters the guest.", enter());
-    step("The driver writes 00040061H to VICR_LO: the tuner's wake-up call.", command(TO_SELF | WAKE_UP));
-    step("The next instruction boundary is open.", next_instruction());
-    step("In the handler, statistics of the same class ask for service.", command(TO_SELF | STATISTICS));
-    step("The next boundary leaves them waiting.", next_instruction());
-    step("The sensor's frame end asks for service, of a higher class.", command(TO_SELF | FRAME_END));
-    step("The next boundary nests it.", next_instruction());
-    step("The frame-end handler writes EOI.", end_of_interrupt());
-    step("The wake-up handler writes EOI; the statistics' turn has come.", end_of_interrupt());
-    step("The next boundary delivers them.", next_instruction());
-    step("Their handler writes EOI.", end_of_interrupt());
+    run(code, sizeof code / sizeof code[0]);
     printf("\nBlack level clamp is %s.\n\n", clamp_armed ? "armed" : "not armed");
 }
 
 /* The same call with bit 13 set, which the hardware leaves to the hypervisor. */
 static void outdated_driver(void)
 {
+    static const struct instruction code[] = {
+        {"The driver writes 00042061H to VICR_LO: the same call, bit 13 set.", STORE, GG_VICR_LO,
+         TO_SELF | STALE_BIT | WAKE_UP},
+    };
     printf("A driver made from a map in which bit 13 is spare\n\n");
     clamp_armed = 0;
-    struct gg_answer answer = step("The driver writes 00042061H to VICR_LO: the same call, bit 13 set.",
-                                   command(TO_SELF | STALE_BIT | WAKE_UP));
-    if (answer.number == GG_VM_EXIT && answer.first == GG_EXIT_APIC_WRITE)
-        printf("    nothing is requested: the write is the hypervisor's to handle, and this one drops it\n");
-    step("The hypervisor enters the guest again.", enter());
-    step("The next boundary has nothing to deliver.", next_instruction());
+    run(code, sizeof code / sizeof code[0]);
     printf("\nBlack level clamp is %s.\n",
            clamp_armed ? "armed" : "not armed by hardware: grey night pictures");
 }
@@ -139,6 +164,8 @@ int main(void)
 {
     if (gg_fresh((uint8_t *)&record, sizeof record) != GG_QUIET)
         return 1;
+    step("The hypervisor enters the guest.", enter());
+    printf("\n");
     current_driver();
     outdated_driver();
     return 0;

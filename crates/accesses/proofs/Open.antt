@@ -8,7 +8,8 @@ use mathlib.Core.List.{List, [], _∷_}
 use lib.Dec.{T, eqb, leb, ltb, leb→le}
 use lib.ListN.{getD}
 use borrow.Author.Tests.{le-ltb, ne-eqb}
-use Rattle.accesses.specs.Memory.{openTpr, openDelivery, openRead, inRegister, inRegisters, readRegisters, writeRegisters}
+use Rattle.processor.specs.Offsets.{vtpr, veoi, vicrLo}
+use Rattle.accesses.specs.Accesses.{openTpr, openDelivery, openRead, inRegister, inRegisters, readRegisters, writeRegisters}
 use Rattle.accesses.specs.Marks.{Marked, markedFirst, markedByte, markedTest, carriesRule}
 use Rattle.processor.proofs.Tests.{below, same, and-left, and-right, never}
 
@@ -44,8 +45,8 @@ past-all limit (r ∷ rs) t o h =
 -- past the table nothing is open
 pub past : (offset : ℕ) → 1024 ≤ offset → Marked offset 0
 past o h = record {
-  tpr = simp (ne-eqb o 0x080 (omega arith)) (never (eqb (o % 16) 0));
-  delivery = simp (ne-eqb o 0x080 (omega arith), ne-eqb o 0x0b0 (omega arith), ne-eqb o 0x300 (omega arith)) (never (eqb (o % 16) 0));
+  tpr = simp (ne-eqb o vtpr (omega arith)) (never (eqb (o % 16) 0));
+  delivery = simp (ne-eqb o vtpr (omega arith), ne-eqb o veoi (omega arith), ne-eqb o vicrLo (omega arith)) (never (eqb (o % 16) 0));
   read = never (ltb (o % 16) 4) ∙ sym (past-all 1024 readRegisters tt o h);
   write = never (ltb (o % 16) 4) ∙ sym (past-all 1024 writeRegisters tt o h);
 }

@@ -6,7 +6,7 @@ use mathlib.Core.List.{List}
 use lib.Dec.{eqb, ltb}
 use lib.ListN.{getD}
 use Rattle.processor.specs.Logic.{allBelow}
-use Rattle.accesses.specs.Memory.{openTpr, openDelivery, openRead, openWrite}
+use Rattle.accesses.specs.Accesses.{openTpr, openDelivery, openRead, openWrite}
 
 -- the register's first byte alone has the mark
 abbrev pub markedFirst : ℕ → ℕ → ℕ → Bool

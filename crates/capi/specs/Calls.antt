@@ -1,4 +1,4 @@
--- What the two exported functions reply, and what they leave in the lent bytes.
+-- What the exported functions reply, and what they leave in the lent bytes.
 use Prim.Native.Nat.{ℕ}
 use mathlib.Core.Path.{_≡_}
 use mathlib.Core.Bool.{not, _&&_}
@@ -6,10 +6,14 @@ use mathlib.Core.List.{List}
 use lib.Dec.{eqb}
 use lib.ListN.{length, replicate}
 use Rattle.processor.specs.Logic.{if_then_else_}
-use Rattle.runs.specs.After.{After}
-use Rattle.runs.specs.Step.{step}
-use Rattle.capi.specs.Records.{recordReadable, recordOf, kept}
-use Rattle.capi.specs.Events.{eventReadable, eventOf}
+use Rattle.events.specs.Answers.{numbersOf}
+use Rattle.events.specs.declared.answer.Numbers.{Numbers}
+use Rattle.events.specs.declared.answer.Outcome.{Outcome}
+use Rattle.meaning.specs.Input.{given, leaves}
+use Rattle.meaning.specs.After.{After}
+use Rattle.meaning.specs.Step.{step}
+use Rattle.capi.specs.RecordBytes.{recordReadable, recordOf, kept}
+use Rattle.capi.specs.EventBytes.{eventReadable, eventOf}
 
 pub record Reply : Type 0 where
   pub answer : ℕ
@@ -21,6 +25,17 @@ pub record Reply : Type 0 where
 -- refused: page and record bytes unchanged
 abbrev pub refused : ℕ → List ℕ → List ℕ → Reply
 refused number p b = record { answer = 0; first = number; second = 0; recordBytes = b; page = p }
+
+-- the outcome's numbers, and the record's bytes as they say
+pub record Told (o : Outcome) (b : List ℕ) (n : Numbers) (b′ : List ℕ) : Type 0 where
+  pub numbers : n ≡ numbersOf (o .answer)
+  pub recordBytes : b′ ≡ kept b (n .answer) (o .«record»)
+
+-- an answer's number brought back, and its two values handed over
+pub record Handed (n : Numbers) (a f s : ℕ) : Type 0 where
+  pub answer : a ≡ n .answer
+  pub first : f ≡ n .first
+  pub second : s ≡ n .second
 
 -- the model's answer and page, with the record's bytes where it did not refuse
 abbrev pub replied : List ℕ → After → Reply
@@ -35,7 +50,7 @@ replied b a =
 
 -- the model's step on a record and an event that can be read
 unfoldable pub modelReply : List ℕ → List ℕ → List ℕ → Reply
-modelReply p b e = replied b (step p (recordOf b) (eventOf e))
+modelReply p b e = replied b (step p (recordOf b) (given (eventOf e)))
 
 -- Refusal 1: the page isn't 4,096 bytes. 2: record or event aren't 48 bytes each, or cannot be read. The model's refusals follow.
 unfoldable pub ggStep : List ℕ → List ℕ → List ℕ → Reply
@@ -46,7 +61,18 @@ ggStep p b e =
     else if not (recordReadable b && eventReadable e) then refused 2 p b
     else modelReply p b e
 
--- The claim of gg_step: the answer, its two values, the record's bytes and the page are the definition's.
+-- gg_leave takes no page, and leaves whatever page there is. Refusal 2: the record isn't 48 bytes, or cannot be read. The model's
+-- refusals follow.
+unfoldable pub leaveReply : List ℕ → List ℕ → Reply
+leaveReply p b = replied b (step p (recordOf b) leaves)
+
+unfoldable pub ggLeave : List ℕ → List ℕ → Reply
+ggLeave p b =
+    if not (eqb (length b) 48) then refused 2 p b
+    else if not (recordReadable b) then refused 2 p b
+    else leaveReply p b
+
+-- The claim of gg_step and gg_leave: the answer, its two values, the record's bytes and the page are the definition's.
 pub record Replies (a : Reply) (n f s : ℕ) (b p : List ℕ) : Type 0 where
   pub answer : n ≡ a .answer
   pub first : f ≡ a .first

@@ -1,4 +1,3 @@
-pub mod Records
-pub mod Events
-pub mod Told
+pub mod RecordBytes
+pub mod EventBytes
 pub mod Calls

@@ -1,21 +1,22 @@
 // One event as 48 bytes.
 ghost use mathlib.Core.Path.{_≡_};
-ghost use Rattle.capi.specs.Events.{memoryReadable, eventReadable, memoryReadOf, memoryWriteOf, toCr8Of, wrmsrOf, boundaryOf, requestOf, eventOf};
+ghost use Rattle.capi.specs.EventBytes.{memoryReadable, eventReadable, memoryReadOf, memoryWriteOf, toCr8Of, wrmsrOf, boundaryOf, requestOf, eventOf};
 use crate::controls::controls_of;
+use crate::controls::reserved_zero;
 use events::event::Event;
 use page::bytes::byte_at;
-use page::bytes::long_at;
-use page::bytes::word_at;
+use page::bytes::long_within;
+use page::bytes::word_within;
 
-const KIND: usize = 0;
+const KIND: u16 = 0;
 
-const SIZE: usize = 1;
+const SIZE: u16 = 1;
 
-const FLAGS: usize = 2;
+const FLAGS: u16 = 2;
 
-const DETAIL: usize = 3;
+const DETAIL: u16 = 3;
 
-const NUMBER: u32 = 4;
+const NUMBER: u16 = 4;
 
 const VALUE: u16 = 8;
 
@@ -23,7 +24,7 @@ const VALUE: u16 = 8;
 fn memory_readable(event: &[u8]) -> bool
     ensures { λ r. ⌜ r ≡ memoryReadable (now (event .entry)) ⌝ }
 {
-    (byte_at(event, FLAGS) < 4) & (word_at(event, NUMBER) < 0x1_0000)
+    (byte_at(event, FLAGS) < 4) & (word_within(event, NUMBER) < 0x1_0000)
 }
 
 // Kinds 1 to 9, and every field such that the model's event can hold it.
@@ -31,15 +32,15 @@ pub fn event_readable(event: &[u8]) -> bool
     ensures { λ r. ⌜ r ≡ eventReadable (now (event .entry)) ⌝ }
 {
     match byte_at(event, KIND) {
-        1 => true,
+        1 => reserved_zero(event),
         2 => memory_readable(event),
         3 => memory_readable(event),
-        4 => long_at(event, VALUE) < 0x100,
+        4 => long_within(event, VALUE) < 0x100,
         5 => true,
         6 => true,
         7 => true,
         8 => byte_at(event, FLAGS) < 8,
-        9 => word_at(event, NUMBER) < 0x1_0000,
+        9 => word_within(event, NUMBER) < 0x1_0000,
         _ => false,
     }
 }
@@ -49,9 +50,9 @@ fn memory_read_of(event: &[u8]) -> Event
 {
     let flags = byte_at(event, FLAGS);
     Event::MemoryRead {
-        offset: (word_at(event, NUMBER) % 0x1_0000) as u16,
+        offset: (word_within(event, NUMBER) % 0x1_0000) as u16,
         size: byte_at(event, SIZE),
-        fetch: flags / 1 % 2 == 1,
+        fetch: flags % 2 == 1,
         already: flags / 2 % 2 == 1,
     }
 }
@@ -61,11 +62,11 @@ fn memory_write_of(event: &[u8]) -> Event
 {
     let flags = byte_at(event, FLAGS);
     Event::MemoryWrite {
-        offset: (word_at(event, NUMBER) % 0x1_0000) as u16,
+        offset: (word_within(event, NUMBER) % 0x1_0000) as u16,
         size: byte_at(event, SIZE),
-        fetch: flags / 1 % 2 == 1,
+        fetch: flags % 2 == 1,
         already: flags / 2 % 2 == 1,
-        value: long_at(event, VALUE),
+        value: long_within(event, VALUE),
     }
 }
 
@@ -73,7 +74,7 @@ fn to_cr8_of(event: &[u8]) -> Event
     ensures { λ r. ⌜ r ≡ toCr8Of (now (event .entry)) ⌝ }
 {
     Event::ToCr8 {
-        value: (long_at(event, VALUE) % 0x100) as u8,
+        value: (long_within(event, VALUE) % 0x100) as u8,
         register: byte_at(event, DETAIL),
     }
 }
@@ -82,8 +83,8 @@ fn wrmsr_of(event: &[u8]) -> Event
     ensures { λ r. ⌜ r ≡ wrmsrOf (now (event .entry)) ⌝ }
 {
     Event::Wrmsr {
-        index: word_at(event, NUMBER),
-        value: long_at(event, VALUE),
+        index: word_within(event, NUMBER),
+        value: long_within(event, VALUE),
     }
 }
 
@@ -92,7 +93,7 @@ fn boundary_of(event: &[u8]) -> Event
 {
     let flags = byte_at(event, FLAGS);
     Event::Boundary {
-        interrupts: flags / 1 % 2 == 1,
+        interrupts: flags % 2 == 1,
         sti: flags / 2 % 2 == 1,
         mov_ss: flags / 4 % 2 == 1,
         activity: byte_at(event, DETAIL),
@@ -102,7 +103,7 @@ fn boundary_of(event: &[u8]) -> Event
 fn request_of(event: &[u8]) -> Event
     ensures { λ r. ⌜ r ≡ requestOf (now (event .entry)) ⌝ }
 {
-    Event::Request((word_at(event, NUMBER) % 0x1_0000) as u16)
+    Event::Request((word_within(event, NUMBER) % 0x1_0000) as u16)
 }
 
 // The event by its kind; no other kind than 9 is left for the request once the bytes are readable.
@@ -115,7 +116,7 @@ pub fn event_of(event: &[u8]) -> Event
         3 => memory_write_of(event),
         4 => to_cr8_of(event),
         5 => Event::FromCr8(byte_at(event, DETAIL)),
-        6 => Event::Rdmsr(word_at(event, NUMBER)),
+        6 => Event::Rdmsr(word_within(event, NUMBER)),
         7 => wrmsr_of(event),
         8 => boundary_of(event),
         _ => request_of(event),

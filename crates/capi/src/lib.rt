@@ -1,10 +1,14 @@
 // The boundary that a C simulator links: a lent page, a record and an event as bytes, an answer as numbers.
-ghost use Rattle.capi.specs.Calls.{Replies, FreshReplies, modelReply, ggStep, ggFresh};
+ghost use mathlib.Core.Path.{_≡_};
+ghost use mathlib.Core.List.{List};
+ghost use Prim.Native.Nat.{ℕ};
+ghost use Rattle.events.specs.Answers.{numbers as numbersFor};
+ghost use Rattle.capi.specs.Calls.{Told, Handed, Replies, FreshReplies, modelReply, ggStep, leaveReply, ggLeave, ggFresh};
 use event_bytes::event_of;
 use event_bytes::event_readable;
-use numbers::Numbers;
-use numbers::numbers_of;
-use numbers::refused;
+use events::answer::Numbers;
+use events::answer::Outcome;
+use events::answer::numbers_of;
 use records::clear;
 use records::keep;
 use records::record_of;
@@ -12,19 +16,44 @@ use records::record_readable;
 
 mod controls;
 mod event_bytes;
-mod numbers;
 mod records;
+
+fn refused(number: u64) -> Numbers
+    ensures { λ r. ⌜ r ≡ numbersFor 0 number 0 ⌝ }
+{
+    Numbers {
+        answer: 0,
+        first: number,
+        second: 0,
+    }
+}
+
+// The outcome's numbers; the record's bytes take its record where the answer changes it.
+fn told(record: &mut [u8], outcome: Outcome) -> Numbers
+    ensures { λ r. ⌜ Told outcome (now («record» .entry)) r (now («record» .exit)) ⌝ }
+{
+    let answer = outcome.answer;
+    let state = outcome.record;
+    let numbers = numbers_of(answer);
+    keep(record, numbers.answer, state);
+    numbers
+}
+
+// The answer's number; its two values go to first and second.
+fn hand_over(numbers: Numbers, first: &mut u64, second: &mut u64) -> u32
+    ensures { λ r. ⌜ Handed numbers r (now (first .exit)) (now (second .exit)) ⌝ }
+{
+    *first = numbers.first;
+    *second = numbers.second;
+    numbers.answer
+}
 
 // The model's step on a record and an event that can be read.
 fn model_reply(page: &mut [u8], record: &mut [u8], event: &[u8]) -> Numbers
     ensures { λ r. ⌜ Replies (modelReply (now (page .entry)) (now («record» .entry)) (now (event .entry))) (r .answer) (r .first) (r .second) (now («record» .exit)) (now (page .exit)) ⌝ }
 {
     let outcome = model::step(page, record_of(record), event_of(event));
-    let answer = outcome.answer;
-    let state = outcome.record;
-    let numbers = numbers_of(answer);
-    keep(record, numbers.answer, state);
-    numbers
+    told(record, outcome)
 }
 
 // Refusals 1 and 2 of what cannot be read; the model decides on the rest.
@@ -58,10 +87,36 @@ pub extern "C" fn gg_step(
 ) -> u32
     ensures { λ r. ⌜ Replies (ggStep (now (page .entry)) (now («record» .entry)) (now (event .entry))) r (now (first .exit)) (now (second .exit)) (now («record» .exit)) (now (page .exit)) ⌝ }
 {
-    let numbers = step_bytes(page, record, event);
-    *first = numbers.first;
-    *second = numbers.second;
-    numbers.answer
+    hand_over(step_bytes(page, record, event), first, second)
+}
+
+// The guest of a record that can be read leaves.
+fn leave_reply(record: &mut [u8]) -> Numbers
+    ensures { λ r. ⌜ ((p : List ℕ) → Replies (leaveReply p (now («record» .entry))) (r .answer) (r .first) (r .second) (now («record» .exit)) p) ⌝ }
+{
+    let outcome = model::leave(record_of(record));
+    told(record, outcome)
+}
+
+// Refusal 2 of what cannot be read; the model decides on the rest.
+fn leave_bytes(record: &mut [u8]) -> Numbers
+    ensures { λ r. ⌜ ((p : List ℕ) → Replies (ggLeave p (now («record» .entry))) (r .answer) (r .first) (r .second) (now («record» .exit)) p) ⌝ }
+{
+    if record.len() != 48 {
+        return refused(2);
+    }
+    if !record_readable(record) {
+        return refused(2);
+    }
+    leave_reply(record)
+}
+
+// The guest leaves for a reason outside the model: the answer's number comes back, its two values go to first and second.
+#[no_mangle]
+pub extern "C" fn gg_leave(record: &mut [u8], first: &mut u64, second: &mut u64) -> u32
+    ensures { λ r. ⌜ ((p : List ℕ) → Replies (ggLeave p (now («record» .entry))) r (now (first .exit)) (now (second .exit)) (now («record» .exit)) p) ⌝ }
+{
+    hand_over(leave_bytes(record), first, second)
 }
 
 // The record before any event, where 48 bytes are lent.

@@ -1,26 +1,27 @@
 // The processor record as 48 bytes.
 ghost use mathlib.Core.Path.{_≡_};
 ghost use lib.ListN.{length, replicate};
-ghost use Rattle.capi.specs.Records.{recordReadable, recordOf, truthByte, recordBytes, kept};
+ghost use Rattle.capi.specs.RecordBytes.{recordReadable, recordOf, truthByte, recordBytes, kept};
 use crate::controls::controls_bytes;
 use crate::controls::controls_of;
+use crate::controls::reserved_zero;
 use page::bytes::byte_at;
 use processor::controls::Record;
 use stores::bytes::set_byte;
 
-const MODE: usize = 0;
+const MODE: u16 = 0;
 
-const RVI: usize = 1;
+const RVI: u16 = 1;
 
-const SVI: usize = 2;
+const SVI: u16 = 2;
 
-const RECOGNISED: usize = 3;
+const RECOGNISED: u16 = 3;
 
-// Mode and recognised are 0 or 1.
+// Mode and recognised are 0 or 1, and the reserved bytes are 0.
 pub fn record_readable(bytes: &[u8]) -> bool
     ensures { λ r. ⌜ r ≡ recordReadable (now (bytes .entry)) ⌝ }
 {
-    (byte_at(bytes, MODE) < 2) & (byte_at(bytes, RECOGNISED) < 2)
+    (byte_at(bytes, MODE) < 2) & (byte_at(bytes, RECOGNISED) < 2) & reserved_zero(bytes)
 }
 
 pub fn record_of(bytes: &[u8]) -> Record

@@ -2,7 +2,8 @@
 use mathlib.Core.Path.{_≡_, refl, sym, _∙_, ap}
 use lib.Dec.{eqb}
 use Rattle.processor.specs.Logic.{if_then_else_}
-use Rattle.events.specs.Answers.{Numbers, numbersOf}
+use Rattle.events.specs.declared.answer.Numbers.{Numbers}
+use Rattle.events.specs.Answers.{numbersOf}
 use Rattle.events.specs.declared.answer.Answer.{Answer}
 use Rattle.events.specs.declared.answer.Answer.the-variants.{Refused, Redirected, Passthrough, Fault, Exit, Delivered, Quiet}
 

@@ -1,14 +1,10 @@
 -- Document 01, "What comes back": the number and the values of each answer. Numbers not named are 0.
 use Prim.Native.Nat.{ℕ}
+use Rattle.events.specs.declared.answer.Numbers.{Numbers}
 use Rattle.events.specs.declared.answer.Answer.{Answer}
 use Rattle.events.specs.declared.answer.Answer.the-variants.{Refused, Redirected, Passthrough, Fault, Exit, Delivered, Quiet}
 
--- An answer's number and its two values.
-pub record Numbers : Type 0 where
-  pub answer : ℕ
-  pub first : ℕ
-  pub second : ℕ
-
+-- an answer's number and its two values
 abbrev pub numbers : ℕ → ℕ → ℕ → Numbers
 numbers a f s = record { answer = a; first = f; second = s }
 

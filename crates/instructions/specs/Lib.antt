@@ -1,1 +1,1 @@
-pub mod Cr8Msr
+pub mod Instructions

@@ -2,8 +2,8 @@
 ghost use mathlib.Core.Path.{_≡_};
 ghost use Prim.Native.Nat.{_%_};
 ghost use Rattle.processor.specs.Controls.{isOn};
-ghost use Rattle.instructions.specs.Cr8Msr.{cr8Access, cr8Qualification};
-use accesses::memory::Access;
+ghost use Rattle.instructions.specs.Instructions.{cr8Access, cr8Qualification};
+use processor::access::Access;
 use processor::controls::Controls;
 use processor::controls::USE_TPR_SHADOW;
 
@@ -14,7 +14,7 @@ pub const FROM_CR8: u8 = 24;
 
 // To CR8 under CR8-load exiting, from CR8 under CR8-store exiting.
 pub fn cr8_access(c: Controls, exiting: u8) -> Access
-    ensures { λ r. ⌜ r ≡ cr8Access (isOn c (exiting % 64)) c ⌝ }
+    ensures { λ r. ⌜ r ≡ cr8Access (isOn c (exiting % 32)) c ⌝ }
 {
     if c.is_on(exiting) {
         return Access::Exit;

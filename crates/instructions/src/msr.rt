@@ -1,6 +1,6 @@
 // What RDMSR and WRMSR come to.
 ghost use mathlib.Core.Path.{_≡_};
-ghost use Rattle.instructions.specs.Cr8Msr.{rdmsrRedirected, msrOffset, wrmsrHandled, wrmsrFaults, wrmsrFollowing, wrmsr};
+ghost use Rattle.instructions.specs.Instructions.{rdmsrRedirected, msrOffset, wrmsrHandled, wrmsrFaults, wrmsrFollowing, wrmsr};
 use processor::controls::APIC_REGISTER_VIRTUALIZATION;
 use processor::controls::Controls;
 use processor::controls::VIRTUAL_DELIVERY;

@@ -1,15 +1,20 @@
--- What the bounds say where an event is carried out. Assumes nothing.
+-- What an event has passed where it is carried out. Assumes nothing.
 use Prim.Native.Nat.{ℕ, _%_, _<_}
 use native.Mathlib.Omega.{arith}
 use mathlib.Core.Path.{_≡_, sym, _∙_, ap}
-use mathlib.Core.Bool.{Bool, true, false, not}
-use borrow.Author.Tests.{ltb-true, not-false}
-use Rattle.events.specs.Events.{eventInBounds, inBounds}
+use mathlib.Core.Bool.{true}
+use mathlib.Core.List.{List}
+use borrow.Author.Tests.{ltb-true}
 use Rattle.processor.specs.Controls.{flagsInBounds}
-use Rattle.processor.proofs.Tests.{right}
 use Rattle.processor.specs.declared.controls.Record.{Record}
+use Rattle.processor.proofs.Tests.{right}
+use Rattle.events.specs.Events.{eventInBounds}
+use Rattle.events.specs.declared.answer.Refusal.the-variants.{None}
 use Rattle.events.specs.declared.event.Event.{Event}
 use Rattle.events.specs.declared.event.Event.the-variants.{Request}
+use Rattle.meaning.specs.Input.{given}
+use Rattle.meaning.specs.Refusals.{refusalOf}
+use Rattle.meaning.proofs.Refused.{passed}
 
 -- a requested vector is a byte
 pub byte-vector : (e : Event) (v : ℕ) → e ≡ Request v → eventInBounds e ≡ true → v % 256 ≡ v
@@ -19,6 +24,6 @@ byte-vector e v q t = small (ltb-true v 256 (sym (ap eventInBounds q) ∙ t))
     small : v < 256 → v % 256 ≡ v
     small h = omega arith
 
--- what was not refused by refusal 2 has an event within its bounds
-pub event-within : (r : Record) (e : Event) (b : Bool) → b ≡ inBounds r e → not b ≡ false → eventInBounds e ≡ true
-event-within r e b q n = right (flagsInBounds (r .controls)) (eventInBounds e) (sym q ∙ not-false b n)
+-- what gets no refusal has an event within its bounds
+pub event-within : (p : List ℕ) (r : Record) (e : Event) → refusalOf p r (given e) ≡ None → eventInBounds e ≡ true
+event-within p r e q = right (flagsInBounds (r .controls)) (eventInBounds e) (passed p r (given e) q .fields)

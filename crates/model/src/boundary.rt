@@ -1,16 +1,16 @@
 // The boundary between two guest instructions.
 ghost use mathlib.Core.Path.{_≡_};
-ghost use Rattle.runs.specs.After.{Leaves};
-ghost use Rattle.runs.specs.Boundary.{deliveredPage, delivery as deliveryOf, boundaryAt, boundary as boundaryOf};
+ghost use Rattle.meaning.specs.After.{Leaves};
+ghost use Rattle.meaning.specs.Boundary.{deliveredPage, delivery as deliveryOf, boundaryAt, boundary as boundaryOf};
 use crate::outcome::delivered;
 use crate::outcome::exit;
 use crate::outcome::quiet;
-use crate::procedures::VIRR;
-use crate::procedures::VISR;
-use crate::procedures::VPPR;
 use events::answer::Outcome;
 use processor::controls::INTERRUPT_WINDOW_EXITING;
 use processor::controls::Record;
+use processor::offsets::VIRR;
+use processor::offsets::VISR;
+use processor::offsets::VPPR;
 use registers::vectors::highest_vector;
 use registers::vectors::put_vector;
 use rules::procedures::low_cleared;
@@ -21,7 +21,7 @@ fn move_to_service(page: &mut [u8], vector: u8)
     ensures { λ _. ⌜ now (page .exit) ≡ deliveredPage (now (page .entry)) vector ⌝ }
 {
     put_vector(page, VISR, vector, true);
-    set_word(page, VPPR as u32, low_cleared(vector) as u32);
+    set_word(page, VPPR, low_cleared(vector) as u32);
     put_vector(page, VIRR, vector, false);
 }
 
@@ -32,7 +32,7 @@ fn delivery(page: &mut [u8], record: Record) -> Outcome
     move_to_service(page, vector);
     let mut next = record;
     next.svi = vector;
-    next.rvi = highest_vector(page, VIRR as u16);
+    next.rvi = highest_vector(page, VIRR);
     next.recognised = false;
     delivered(next, vector)
 }

@@ -1,21 +1,21 @@
 // CR8 both ways.
-ghost use Rattle.runs.specs.After.{Leaves};
-ghost use Rattle.runs.specs.Cr8Msr.{movToCr8, movFromCr8};
+ghost use Rattle.meaning.specs.After.{Leaves};
+ghost use Rattle.meaning.specs.Cr8Msr.{movToCr8, movFromCr8};
 use crate::outcome::exit;
 use crate::outcome::passthrough;
 use crate::outcome::redirected;
-use crate::procedures::VTPR;
 use crate::procedures::tpr_virtualization;
-use accesses::memory::Access;
 use events::answer::Outcome;
 use instructions::cr8::FROM_CR8;
 use instructions::cr8::TO_CR8;
 use instructions::cr8::cr8_access;
 use instructions::cr8::cr8_qualification;
 use page::bytes::byte_at;
+use processor::access::Access;
 use processor::controls::CR8_LOAD_EXITING;
 use processor::controls::CR8_STORE_EXITING;
 use processor::controls::Record;
+use processor::offsets::VTPR;
 use rules::procedures::class_of;
 use stores::bytes::set_word;
 
@@ -28,7 +28,7 @@ pub fn mov_to_cr8(page: &mut [u8], record: Record, value: u8, register: u8) -> O
         Access::Passthrough => passthrough(record),
         Access::Exit => exit(record, 28, cr8_qualification(TO_CR8, register)),
         Access::Redirected => {
-            set_word(page, VTPR as u32, 16 * (value as u32));
+            set_word(page, VTPR, 16 * (value as u32));
             tpr_virtualization(page, record)
         }
     }

@@ -1,11 +1,8 @@
 // Entry and request.
-ghost use Rattle.runs.specs.After.{Leaves};
-ghost use Rattle.runs.specs.Entry.{entered as enteredOf, entry as entryOf, request as requestOf};
+ghost use Rattle.meaning.specs.After.{Leaves};
+ghost use Rattle.meaning.specs.Entry.{entered as enteredOf, entry as entryOf, request as requestOf};
 use crate::outcome::exit;
 use crate::outcome::quiet;
-use crate::outcome::refused;
-use crate::procedures::VIRR;
-use crate::procedures::VTPR;
 use crate::procedures::evaluated_quiet;
 use crate::procedures::ppr_virtualization;
 use crate::procedures::requested;
@@ -14,9 +11,10 @@ use page::bytes::byte_at;
 use processor::controls::Controls;
 use processor::controls::Record;
 use processor::controls::VIRTUAL_DELIVERY;
+use processor::offsets::VIRR;
+use processor::offsets::VTPR;
 use registers::vectors::put_vector;
 use rules::entry::exits_at_entry;
-use rules::entry::failing_check;
 
 fn entered(page: &mut [u8], record: Record) -> Outcome
     ensures { λ r. ⌜ Leaves (enteredOf (now (page .entry)) «record») r (now (page .exit)) ⌝ }
@@ -34,17 +32,13 @@ fn entered(page: &mut [u8], record: Record) -> Outcome
 pub fn entry(page: &mut [u8], record: Record, controls: Controls) -> Outcome
     ensures { λ r. ⌜ Leaves (entryOf (now (page .entry)) «record» controls) r (now (page .exit)) ⌝ }
 {
-    let check = failing_check(controls);
-    if check == 0 {
-        let mut next = record;
-        next.controls = controls;
-        if exits_at_entry(controls, byte_at(page, VTPR)) {
-            return exit(next, 43, 0);
-        }
-        next.guest = true;
-        return entered(page, next);
+    let mut next = record;
+    next.controls = controls;
+    if exits_at_entry(controls, byte_at(page, VTPR)) {
+        return exit(next, 43, 0);
     }
-    refused(record, 4, check)
+    next.guest = true;
+    entered(page, next)
 }
 
 pub fn request(page: &mut [u8], record: Record, vector: u8) -> Outcome

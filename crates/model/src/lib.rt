@@ -1,10 +1,14 @@
-// The base model: one event at a time on a lent page.
+// The model: one input at a time on a lent page.
 ghost use mathlib.Core.Path.{_≡_};
-ghost use Rattle.runs.specs.After.{Leaves};
-ghost use Rattle.runs.specs.Step.{carriedOut, step as stepOf};
+ghost use Rattle.meaning.specs.After.{Leaves};
+ghost use Rattle.meaning.specs.Input.{given, leaves};
+ghost use Rattle.meaning.specs.Step.{eventOut, step as stepOf};
 ghost use Rattle.events.specs.Events.{eventInBounds};
 ghost use mathlib.Core.Bool.{true};
+ghost use mathlib.Core.List.{List};
+ghost use Prim.Native.Nat.{ℕ};
 use events::answer::Outcome;
+use events::answer::Refusal;
 use events::event::Event;
 use processor::controls::Record;
 
@@ -19,9 +23,13 @@ mod procedures;
 // The record before any event: root mode, all zero.
 pub use processor::controls::fresh_record;
 
+// Which refusal an event, or a guest that leaves, gets.
+pub use refusals::list::leave_refusal_of;
+pub use refusals::list::refusal_of;
+
 fn carry_out(page: &mut [u8], record: Record, event: Event) -> Outcome
     requires { ⌜ eventInBounds event ≡ true ⌝ }
-    ensures { λ r. ⌜ Leaves (carriedOut (now (page .entry)) «record» event) r (now (page .exit)) ⌝ }
+    ensures { λ r. ⌜ Leaves (eventOut (now (page .entry)) «record» event) r (now (page .exit)) ⌝ }
 {
     match event {
         Event::Entry(controls) => entry::entry(page, record, controls),
@@ -54,16 +62,22 @@ fn carry_out(page: &mut [u8], record: Record, event: Event) -> Outcome
 
 // Carries out one event on any page slice and any record, or refuses it by its number.
 pub fn step(page: &mut [u8], record: Record, event: Event) -> Outcome
-    ensures { λ r. ⌜ Leaves (stepOf (now (page .entry)) «record» event) r (now (page .exit)) ⌝ }
+    ensures { λ r. ⌜ Leaves (stepOf (now (page .entry)) «record» (given event)) r (now (page .exit)) ⌝ }
 {
-    if page.len() != 4096 {
-        return outcome::refused(record, 1, 0);
+    let refusal = refusal_of(page, record, event);
+    match refusal {
+        Refusal::None => carry_out(page, record, event),
+        Refusal::By { number, check } => outcome::refused(record, number, check),
     }
-    if !events::event::in_bounds(record, event) {
-        return outcome::refused(record, 2, 0);
+}
+
+// The guest leaves for a reason outside the model, on whatever page.
+pub fn leave(record: Record) -> Outcome
+    ensures { λ r. ⌜ ((p : List ℕ) → Leaves (stepOf p «record» leaves) r p) ⌝ }
+{
+    let refusal = leave_refusal_of(record);
+    match refusal {
+        Refusal::None => outcome::left(record),
+        Refusal::By { number, check } => outcome::refused(record, number, check),
     }
-    if !events::event::is_allowed(record, event) {
-        return outcome::refused(record, 3, 0);
-    }
-    carry_out(page, record, event)
 }

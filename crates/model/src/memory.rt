@@ -1,16 +1,15 @@
 // Memory accesses.
 ghost use mathlib.Core.Path.{_≡_};
-ghost use Rattle.runs.specs.After.{Leaves};
-ghost use Rattle.runs.specs.Memory.{memoryRead, clearThree, followBy, written as writtenOf, memoryWrite};
+ghost use Prim.Native.Nat.{_<_};
+ghost use Rattle.meaning.specs.After.{Leaves};
+ghost use Rattle.meaning.specs.Memory.{memoryRead, clearThree, followBy, written as writtenOf, memoryWrite};
 use crate::outcome::exit;
 use crate::outcome::passthrough;
 use crate::outcome::quiet;
 use crate::outcome::redirected;
-use crate::procedures::VTPR;
 use crate::procedures::eoi_virtualization;
 use crate::procedures::self_ipi_virtualization;
 use crate::procedures::tpr_virtualization;
-use accesses::memory::Access;
 use accesses::memory::Following;
 use accesses::memory::memory_access;
 use accesses::memory::read_qualification;
@@ -20,16 +19,15 @@ use events::answer::Outcome;
 use page::bytes::byte_at;
 use page::bytes::read_at;
 use page::bytes::word_at;
+use processor::access::Access;
 use processor::controls::Record;
+use processor::offsets::VEOI;
+use processor::offsets::VICR_HI;
+use processor::offsets::VICR_LO;
+use processor::offsets::VTPR;
 use stores::bytes::set_byte;
 use stores::bytes::set_word;
 use stores::bytes::store_at;
-
-const VEOI: u32 = 0x0b0;
-
-const VICR_LO: u32 = 0x300;
-
-const VICR_HI: usize = 0x310;
 
 pub fn memory_read(
     page: &[u8],
@@ -50,13 +48,13 @@ pub fn memory_read(
     }
 }
 
-fn clear_three(page: &mut [u8], at: u16)
-    ensures { λ _. ⌜ now (page .exit) ≡ clearThree (now (page .entry)) at ⌝ }
+fn clear_three(page: &mut [u8], offset: u16)
+    requires { ⌜ offset < 4096 ⌝ }
+    ensures { λ _. ⌜ now (page .exit) ≡ clearThree (now (page .entry)) offset ⌝ }
 {
-    let first = at as usize;
-    set_byte(page, first, 0);
-    set_byte(page, first + 1, 0);
-    set_byte(page, first + 2, 0);
+    set_byte(page, offset, 0);
+    set_byte(page, offset + 1, 0);
+    set_byte(page, offset + 2, 0);
 }
 
 fn follow(page: &mut [u8], record: Record, offset: u16, following: Following) -> Outcome
@@ -64,7 +62,7 @@ fn follow(page: &mut [u8], record: Record, offset: u16, following: Following) ->
 {
     match following {
         Following::Tpr => {
-            clear_three(page, VTPR as u16 + 1);
+            clear_three(page, VTPR + 1);
             tpr_virtualization(page, record)
         }
         Following::Eoi => {
@@ -72,11 +70,11 @@ fn follow(page: &mut [u8], record: Record, offset: u16, following: Following) ->
             eoi_virtualization(page, record)
         }
         Following::SelfIpi => {
-            let vector = byte_at(page, VICR_LO as usize);
+            let vector = byte_at(page, VICR_LO);
             self_ipi_virtualization(page, record, vector)
         }
         Following::IcrHigh => {
-            clear_three(page, VICR_HI as u16);
+            clear_three(page, VICR_HI);
             quiet(record)
         }
         Following::ApicWrite => exit(record, 56, offset as u64),

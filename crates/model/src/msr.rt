@@ -1,6 +1,6 @@
 // RDMSR and WRMSR.
-ghost use Rattle.runs.specs.After.{Leaves};
-ghost use Rattle.runs.specs.Cr8Msr.{readMsr, writeMsrBy, writeMsr};
+ghost use Rattle.meaning.specs.After.{Leaves};
+ghost use Rattle.meaning.specs.Cr8Msr.{readMsr, writeMsrBy, writeMsr};
 use crate::outcome::exit;
 use crate::outcome::fault;
 use crate::outcome::passthrough;

@@ -1,13 +1,17 @@
 // The five procedures.
 ghost use mathlib.Core.Path.{_≡_};
-ghost use Rattle.runs.specs.After.{Leaves};
-ghost use Rattle.runs.specs.Procedures.{pprVirtualization, evaluation as evaluationOf, evaluatedQuiet, tprVirtualization, eoiEnd, eoiVirtualization, requestedRecord, selfIpiVirtualization};
+ghost use Rattle.meaning.specs.After.{Leaves};
+ghost use Rattle.meaning.specs.Procedures.{pprVirtualization, evaluation as evaluationOf, evaluatedQuiet, tprVirtualization, eoiEnd, eoiVirtualization, requestedRecord, selfIpiVirtualization};
 use crate::outcome::exit;
 use crate::outcome::quiet;
 use events::answer::Outcome;
 use page::bytes::byte_at;
 use processor::controls::Record;
 use processor::controls::VIRTUAL_DELIVERY;
+use processor::offsets::VIRR;
+use processor::offsets::VISR;
+use processor::offsets::VPPR;
+use processor::offsets::VTPR;
 use registers::vectors::highest_vector;
 use registers::vectors::put_vector;
 use rules::procedures::below_threshold;
@@ -16,20 +20,12 @@ use rules::procedures::larger_of;
 use rules::procedures::ppr_of;
 use stores::bytes::set_word;
 
-pub const VTPR: usize = 0x080;
-
-pub const VPPR: usize = 0x0a0;
-
-pub const VISR: usize = 0x100;
-
-pub const VIRR: usize = 0x200;
-
 // VPPR from VTPR and SVI.
 pub fn ppr_virtualization(page: &mut [u8], record: Record)
     ensures { λ _. ⌜ now (page .exit) ≡ pprVirtualization (now (page .entry)) «record» ⌝ }
 {
     let ppr = ppr_of(byte_at(page, VTPR), record.svi);
-    set_word(page, VPPR as u32, ppr as u32);
+    set_word(page, VPPR, ppr as u32);
 }
 
 // Whether RVI is recognised against VPPR.
@@ -79,7 +75,7 @@ pub fn eoi_virtualization(page: &mut [u8], record: Record) -> Outcome
     let old = record.svi;
     put_vector(page, VISR, old, false);
     let mut next = record;
-    next.svi = highest_vector(page, VISR as u16);
+    next.svi = highest_vector(page, VISR);
     eoi_end(page, next, old)
 }
 

@@ -1,32 +1,10 @@
--- Document 01, "Registers on the page": where they lie, and their bytes.
+-- Document 01, "Registers on the page": bytes of the page, little-endian.
 use Prim.Native.Nat.{ℕ, _+_, _*_, _<_}
 use mathlib.Core.Path.{_≡_}
 use mathlib.Core.List.{List}
 use lib.ListN.{length, getD}
-use lib.Dec.{eqb}
+use lib.Dec.{eqb, leb}
 use Rattle.processor.specs.Logic.{if_then_else_}
-
--- Little-endian, offsets in hex: VTPR 080, VPPR 0A0, VEOI 0B0, VISR 100, VIRR 200, VICR_LO 300, VICR_HI 310.
-abbrev pub vtpr : ℕ
-vtpr = 0x080
-
-abbrev pub vppr : ℕ
-vppr = 0x0a0
-
-abbrev pub veoi : ℕ
-veoi = 0x0b0
-
-abbrev pub visr : ℕ
-visr = 0x100
-
-abbrev pub virr : ℕ
-virr = 0x200
-
-abbrev pub vicrLo : ℕ
-vicrLo = 0x300
-
-abbrev pub vicrHi : ℕ
-vicrHi = 0x310
 
 -- a byte of the page, 0 past its end
 abbrev pub byteAt : List ℕ → ℕ → ℕ
@@ -44,6 +22,13 @@ wordAt p at = wordOf (byteAt p at) (byteAt p (at + 1)) (byteAt p (at + 2)) (byte
 
 unfoldable pub longAt : List ℕ → ℕ → ℕ
 longAt p at = wordAt p at + 0x1_0000_0000 * wordAt p (at + 4)
+
+-- four and eight bytes where the slice has them all, else 0
+unfoldable pub wordWithin : List ℕ → ℕ → ℕ
+wordWithin p at = if leb (at + 4) (length p) then wordAt p at else 0
+
+unfoldable pub longWithin : List ℕ → ℕ → ℕ
+longWithin p at = if leb (at + 8) (length p) then longAt p at else 0
 
 -- the bytes of a read, by its size
 unfoldable pub readAt : List ℕ → ℕ → ℕ → ℕ

@@ -2,9 +2,10 @@
 ghost use mathlib.Core.Path.{_≡_};
 ghost use Prim.Native.Nat.{_+_, _≤_};
 ghost use lib.ListN.{length};
-ghost use Rattle.page.specs.Page.{wordOf, byteAt, halfAt, wordAt, longAt, readAt};
+ghost use Rattle.page.specs.Page.{wordOf, byteAt, halfAt, wordAt, longAt, wordWithin, longWithin, readAt};
 
-pub fn byte_at(page: &[u8], at: usize) -> u8
+// The byte at a place of the slice, 0 past its end.
+fn byte_from(page: &[u8], at: usize) -> u8
     ensures { λ r. ⌜ r ≡ byteAt (now (page .entry)) at ⌝ }
 {
     if at < page.len() {
@@ -13,12 +14,18 @@ pub fn byte_at(page: &[u8], at: usize) -> u8
     0
 }
 
+pub fn byte_at(page: &[u8], offset: u16) -> u8
+    ensures { λ r. ⌜ r ≡ byteAt (now (page .entry)) offset ⌝ }
+{
+    byte_from(page, offset as usize)
+}
+
 fn half_at(page: &[u8], offset: u16) -> u16
     ensures { λ r. ⌜ r ≡ halfAt (now (page .entry)) offset ⌝ }
 {
     let at = offset as usize;
-    let low = byte_at(page, at) as u16;
-    let high = byte_at(page, at + 1) as u16;
+    let low = byte_from(page, at) as u16;
+    let high = byte_from(page, at + 1) as u16;
     low + 0x100 * high
 }
 
@@ -36,18 +43,26 @@ fn whole_word(page: &[u8], at: usize) -> u32
     word_of(page[at], page[at + 1], page[at + 2], page[at + 3])
 }
 
-pub fn word_at(page: &[u8], offset: u32) -> u32
+// Four bytes of which the slice may lack some.
+fn word_from(page: &[u8], from: u32) -> u32
+    ensures { λ r. ⌜ r ≡ wordAt (now (page .entry)) from ⌝ }
+{
+    let at = from as usize;
+    let b0 = byte_from(page, at);
+    let b1 = byte_from(page, at + 1);
+    let b2 = byte_from(page, at + 2);
+    let b3 = byte_from(page, at + 3);
+    word_of(b0, b1, b2, b3)
+}
+
+pub fn word_at(page: &[u8], offset: u16) -> u32
     ensures { λ r. ⌜ r ≡ wordAt (now (page .entry)) offset ⌝ }
 {
     let at = offset as usize;
     if at + 4 <= page.len() {
         return whole_word(page, at);
     }
-    let b0 = byte_at(page, at);
-    let b1 = byte_at(page, at + 1);
-    let b2 = byte_at(page, at + 2);
-    let b3 = byte_at(page, at + 3);
-    word_of(b0, b1, b2, b3)
+    word_from(page, offset as u32)
 }
 
 // Eight bytes that the slice has.
@@ -68,9 +83,31 @@ pub fn long_at(page: &[u8], offset: u16) -> u64
         return whole_long(page, at);
     }
     let from = offset as u32;
-    let low = word_at(page, from) as u64;
-    let high = word_at(page, from + 4) as u64;
+    let low = word_from(page, from) as u64;
+    let high = word_from(page, from + 4) as u64;
     low + 0x1_0000_0000 * high
+}
+
+// Four bytes where the slice has them all, else 0.
+pub fn word_within(page: &[u8], offset: u16) -> u32
+    ensures { λ r. ⌜ r ≡ wordWithin (now (page .entry)) offset ⌝ }
+{
+    let at = offset as usize;
+    if at + 4 <= page.len() {
+        return whole_word(page, at);
+    }
+    0
+}
+
+// Eight bytes where the slice has them all, else 0.
+pub fn long_within(page: &[u8], offset: u16) -> u64
+    ensures { λ r. ⌜ r ≡ longWithin (now (page .entry)) offset ⌝ }
+{
+    let at = offset as usize;
+    if at + 8 <= page.len() {
+        return whole_long(page, at);
+    }
+    0
 }
 
 // The bytes of a read, by its size.
@@ -78,13 +115,13 @@ pub fn read_at(page: &[u8], offset: u16, size: u8) -> u64
     ensures { λ r. ⌜ r ≡ readAt (now (page .entry)) offset size ⌝ }
 {
     if size == 1 {
-        return byte_at(page, offset as usize) as u64;
+        return byte_at(page, offset) as u64;
     }
     if size == 2 {
         return half_at(page, offset) as u64;
     }
     if size == 4 {
-        return word_at(page, offset as u32) as u64;
+        return word_at(page, offset) as u64;
     }
     long_at(page, offset)
 }

@@ -63,10 +63,11 @@ eoiExitWord c w =
 abbrev pub eoiExit : Controls → ℕ → Bool
 eoiExit c v = bit (eoiExitWord c (v / 64)) (v % 64)
 
--- Fresh: root, all zero.
+-- every control off, threshold and EOI-exit bits 0
 abbrev pub noControls : Controls
 noControls = record { flags = 0; threshold = 0; «eoi_exit_0» = 0; «eoi_exit_1» = 0; «eoi_exit_2» = 0; «eoi_exit_3» = 0 }
 
+-- Fresh: root, all zero.
 abbrev pub fresh : Record
 fresh = record { guest = false; rvi = 0; svi = 0; recognised = false; controls = noControls }
 

@@ -1,2 +1,3 @@
 pub mod Logic
 pub mod Controls
+pub mod Offsets

@@ -23,7 +23,7 @@ pub const CR8_LOAD_EXITING: u8 = 7;
 pub const CR8_STORE_EXITING: u8 = 8;
 
 pub struct Controls {
-    pub flags: u64,
+    pub flags: u32,
     pub threshold: u32,
     pub eoi_exit_0: u64,
     pub eoi_exit_1: u64,
@@ -40,11 +40,11 @@ pub struct Record {
 }
 
 impl Controls {
-    // The control of a bit is on; bits count mod 64.
+    // The control of a bit is on; bits count mod 32.
     pub fn is_on(self, control: u8) -> bool
-        ensures { λ r. ⌜ r ≡ isOn self (control % 64) ⌝ }
+        ensures { λ r. ⌜ r ≡ isOn self (control % 32) ⌝ }
     {
-        let at = control % 64;
+        let at = control % 32;
         (self.flags >> at) % 2 == 1
     }
 

@@ -1,4 +1,4 @@
--- The search for the highest set vector: bit by bit down a word, word by word down a register. Assumes nothing.
+-- The search for the highest set vector: bit by bit down a word, word by word down the register at base 0. Assumes nothing.
 use Prim.Native.Nat.{ℕ, zero, suc, _+_, _-_, _*_, _/_, _%_, _^_, _<_, _≤_}
 use native.Mathlib.Nat.{not-suc-le-zero, le-refl, add-zero, add-suc}
 use native.Mathlib.Numerals.{sub-one}
@@ -55,44 +55,44 @@ block f word m (suc k) h = ap (λ x. top f x) (add-suc m k) ∙ by (bit word k) 
     by true e ih = simp e
     by false e ih = simp e ih
 
-module _ (p : List ℕ) (base left : ℕ) (bytes : (i : ℕ) → byteAt p i < 256) (some : 0 < left) (most : left ≤ 8) (rest : highest p base ≡ top (isSet p base) (32 * left)) where
+module _ (p : List ℕ) (left : ℕ) (bytes : (i : ℕ) → byteAt p i < 256) (some : 0 < left) (most : left ≤ 8) (rest : highest p 0 ≡ top (isSet p 0) (32 * left)) where
   abbrev word : ℕ
-  word = wordAt p (base + 16 * (left - 1))
+  word = wordAt p (16 * (left - 1))
 
-  at-bit : (k : ℕ) → k < 32 → isSet p base (32 * (left - 1) + k) ≡ bit word k
+  at-bit : (k : ℕ) → k < 32 → isSet p 0 (32 * (left - 1) + k) ≡ bit word k
   at-bit k h =
-      vector-in-word p base (32 * (left - 1) + k) bytes
-      ∙ ap (λ x. bit (wordAt p (base + x)) ((32 * (left - 1) + k) % 32)) (row (left - 1) k h)
+      vector-in-word p 0 (32 * (left - 1) + k) bytes
+      ∙ ap (λ x. bit (wordAt p x) ((32 * (left - 1) + k) % 32)) (row (left - 1) k h)
       ∙ ap (λ x. bit word x) (column (left - 1) k h)
     where
-      row : (a k : ℕ) → k < 32 → (32 * a + k) / 32 * 16 ≡ 16 * a
+      row : (a k : ℕ) → k < 32 → 0 + (32 * a + k) / 32 * 16 ≡ 16 * a
       row a k h = omega arith
 
       column : (a k : ℕ) → k < 32 → (32 * a + k) % 32 ≡ k
       column a k h = omega arith
 
-  by-word : highest p base ≡ after (isSet p base) (32 * (left - 1)) (highestBit word 32)
-  by-word = rest ∙ ap (λ x. top (isSet p base) x) down ∙ block (isSet p base) word (32 * (left - 1)) 32 at-bit
+  by-word : highest p 0 ≡ after (isSet p 0) (32 * (left - 1)) (highestBit word 32)
+  by-word = rest ∙ ap (λ x. top (isSet p 0) x) down ∙ block (isSet p 0) word (32 * (left - 1)) 32 at-bit
     where
       down : 32 * left ≡ 32 * (left - 1) + 32
       down = omega arith
 
-  pub word-found : (found : ℕ) → found ≡ highestBit word 32 → 0 < found → (32 * (left - 1) + found - 1) % 256 ≡ highest p base
+  pub word-found : (found : ℕ) → found ≡ highestBit word 32 → 0 < found → (32 * (left - 1) + found - 1) % 256 ≡ highest p 0
   word-found zero e h = absurd (not-suc-le-zero h)
-  word-found (suc k) e h = place (bit-most word 32) ∙ sym (by-word ∙ ap (λ x. after (isSet p base) (32 * (left - 1)) x) (sym e))
+  word-found (suc k) e h = place (bit-most word 32) ∙ sym (by-word ∙ ap (λ x. after (isSet p 0) (32 * (left - 1)) x) (sym e))
     where
       place : highestBit word 32 ≤ 32 → (32 * (left - 1) + suc k - 1) % 256 ≡ 32 * (left - 1) + k
       place l = omega arith
 
-  pub word-next : (found : ℕ) → found ≡ highestBit word 32 → found ≤ 0 → highest p base ≡ top (isSet p base) (32 * (left - 1))
-  word-next zero e h = by-word ∙ ap (λ x. after (isSet p base) (32 * (left - 1)) x) (sym e)
+  pub word-next : (found : ℕ) → found ≡ highestBit word 32 → found ≤ 0 → highest p 0 ≡ top (isSet p 0) (32 * (left - 1))
+  word-next zero e h = by-word ∙ ap (λ x. after (isSet p 0) (32 * (left - 1)) x) (sym e)
   word-next (suc k) e h = absurd (not-suc-le-zero h)
 
 -- before the first word all 256 bits are left, after the last none
-pub words-all : (p : List ℕ) (base : ℕ) → highest p base ≡ top (isSet p base) (32 * 8)
+pub words-all : (p : List ℕ) → highest p 0 ≡ top (isSet p 0) (32 * 8)
 unfolding highest
-words-all p base = highest-top p base 256
+words-all p = highest-top p 0 256
 
-pub words-over : (p : List ℕ) (base left : ℕ) → left ≤ 0 → highest p base ≡ top (isSet p base) (32 * left) → 0 ≡ highest p base
-words-over p base zero h e = sym e
-words-over p base (suc n) h e = absurd (not-suc-le-zero h)
+pub words-over : (p : List ℕ) (left : ℕ) → left ≤ 0 → highest p 0 ≡ top (isSet p 0) (32 * left) → 0 ≡ highest p 0
+words-over p zero h e = sym e
+words-over p (suc n) h e = absurd (not-suc-le-zero h)

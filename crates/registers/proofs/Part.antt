@@ -1,32 +1,38 @@
--- A byte changed in the part of a page from a base on is that byte changed in the page, also where the part is too short to have it.
--- Assumes nothing.
-use Prim.Native.Nat.{ℕ, _+_, _-_, _≤_, _<_}
-use native.Mathlib.Nat.{le-refl}
+-- The part of a page from a base on: a byte changed in it is that byte changed in the page, also where the part is too short to have
+-- it, and a register that it starts with is the page's at that base. Assumes nothing.
+use Prim.Native.Nat.{ℕ, _+_, _-_, _≤_}
+use native.Mathlib.Nat.{le-refl, zero-add}
 use native.Mathlib.Omega.{arith}
 use mathlib.Core.Path.{_≡_, refl, sym, _∙_, ap}
 use mathlib.Core.Bool.{Bool, true, false}
 use mathlib.Core.List.{List}
 use lib.Dec.{ltb}
-use lib.ListN.{length, getD, set, drop}
-use lib.Seq.{set-out, getD-take, getD-drop}
+use lib.ListN.{length, getD, set, drop, length-drop, drop-of-length-le}
+use lib.Seq.{set-out, take-all, getD-drop}
 use borrow.Author.Tests.{ltb-true, ltb-false}
 use borrow.Rule.Slice.PartMut.{midOf, putMid, mid-len, put-same, set-mid-at}
+use Rattle.registers.specs.Vectors.{isSet, highestBelow, highest}
+use Rattle.registers.proofs.Top.{highest-same}
 
-module _ (p : List ℕ) (base j : ℕ) (f : ℕ → ℕ) (h : base ≤ length p) where
+module _ (p : List ℕ) (base : ℕ) where
   abbrev size : ℕ
   size = length p - base
 
   abbrev part : List ℕ
   part = midOf base size p
 
-  part-byte : j < size → getD part j 0 ≡ getD p (base + j) 0
-  part-byte l = getD-take size (drop base p) j 0 l ∙ getD-drop base p j 0
+  -- it has all that the page has from the base on
+  part-all : part ≡ drop base p
+  part-all = take-all size (drop base p) (rw length-drop (le-refl size))
 
-  by-place : (b : Bool) → ltb j size ≡ b → putMid base size p (set part j (f (getD part j 0))) ≡ set p (base + j) (f (getD p (base + j) 0))
-  by-place true e =
+  part-byte : (j : ℕ) → getD part j 0 ≡ getD p (base + j) 0
+  part-byte j = rw part-all (getD-drop base p j 0)
+
+  by-place : (j : ℕ) (f : ℕ → ℕ) (b : Bool) → ltb j size ≡ b → putMid base size p (set part j (f (getD part j 0))) ≡ set p (base + j) (f (getD p (base + j) 0))
+  by-place j f true e =
       set-mid-at base size j p (f (getD part j 0)) (rw (mid-len base (length p) p (le-refl (length p))) (ltb-true j size e))
-      ∙ ap (λ x. set p (base + j) (f x)) (part-byte (ltb-true j size e))
-  by-place false e =
+      ∙ ap (λ x. set p (base + j) (f x)) (part-byte j)
+  by-place j f false e =
       ap (λ l. putMid base size p l) (set-out part j (f (getD part j 0)) (rw (mid-len base (length p) p (le-refl (length p))) (ltb-false j size e)))
       ∙ put-same base size p
       ∙ sym (set-out p (base + j) (f (getD p (base + j) 0)) (past (ltb-false j size e)))
@@ -34,5 +40,14 @@ module _ (p : List ℕ) (base j : ℕ) (f : ℕ → ℕ) (h : base ≤ length p)
       past : size ≤ j → length p ≤ base + j
       past l = omega arith
 
-  pub changed-part : putMid base size p (set part j (f (getD part j 0))) ≡ set p (base + j) (f (getD p (base + j) 0))
-  changed-part = by-place (ltb j size) refl
+  pub changed-part : (j : ℕ) (f : ℕ → ℕ) → putMid base size p (set part j (f (getD part j 0))) ≡ set p (base + j) (f (getD p (base + j) 0))
+  changed-part j f = by-place j f (ltb j size) refl
+
+  pub highest-part : highest part 0 ≡ highest p base
+  unfolding isSet
+  highest-part = highest-same part p 0 base (λ v l. simp (zero-add, part-byte))
+
+  -- past the page's end nothing is set
+  pub highest-past : length p ≤ base → 0 ≡ highest p base
+  unfolding isSet highestBelow highest
+  highest-past h = ap (λ q. highest q 0) (sym (part-all ∙ drop-of-length-le p h)) ∙ highest-part

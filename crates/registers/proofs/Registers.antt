@@ -3,46 +3,34 @@
 use Prim.Native.Nat.{ℕ, _+_, _*_, _/_, _%_, _≤_, _<_}
 use native.Mathlib.Omega.{arith}
 use mathlib.Core.Path.{_≡_, refl, sym, _∙_, ap}
-use mathlib.Core.Bool.{Bool, true, false, Bool·beq, _&&_}
+use mathlib.Core.Bool.{Bool, true, false, Bool·beq}
 use mathlib.Core.List.{List}
-use lib.Dec.{T, eqb, ltb, ltb→lt}
+use lib.Dec.{eqb, ltb, ltb→lt}
 use lib.ListN.{length, getD, set}
 use lib.Seq.{getD-set-same, getD-set-other}
 use borrow.Author.Tests.{eqb-true, eqb-false, eq-eqb, ne-eqb}
 use Rattle.processor.specs.Logic.{if_then_else_, bit, allBelow}
-use Rattle.rules.specs.Procedures.{larger}
-use Rattle.processor.proofs.Tests.{below, same, and-left, and-right}
+use Rattle.processor.proofs.Tests.{below, same}
 use Rattle.page.specs.Page.{byteAt}
 use Rattle.stores.specs.Stores.{setByte}
 use Rattle.registers.specs.Vectors.{vectorByte, putBit, isSet, put, putVector, highest}
-use Rattle.registers.proofs.Top.{highest-top, top-ext, top-raise, top-fewer, top-below}
+use Rattle.registers.proofs.Bits.{at-byte, both, of-both}
+use Rattle.registers.proofs.Top.{highest-top, highest-same, top-fewer, top-below}
 
 -- one bit of a byte changed, read at each bit: on and off, computed at every byte and pair of bits
-abbrev bit-test : ℕ → ℕ → ℕ → Bool
-bit-test b k j =
-    Bool·beq (bit (putBit b k true) j) (if eqb k j then true else bit b j) &&
-    Bool·beq (bit (putBit b k false) j) (if eqb k j then false else bit b j)
-
-bit-tests : T (allBelow 256 (λ b. allBelow 8 (λ k. allBelow 8 (λ j. bit-test b k j))))
-bit-tests = tt
+abbrev bit-test : ℕ → ℕ → ℕ → Bool → Bool
+bit-test b k j on = Bool·beq (bit (putBit b k on) j) (if eqb k j then on else bit b j)
 
 pub bit-put : (b k j : ℕ) (on : Bool) → b < 256 → k < 8 → j < 8 → bit (putBit b k on) j ≡ (if eqb k j then on else bit b j)
-bit-put b k j on hb hk hj = pick on (below 8 (λ j. bit-test b k j) (below 8 (λ k. allBelow 8 (λ j. bit-test b k j)) (below 256 (λ b. allBelow 8 (λ k. allBelow 8 (λ j. bit-test b k j))) bit-tests b hb) k hk) j hj)
-  where
-    pick : (on : Bool) → T (bit-test b k j) → bit (putBit b k on) j ≡ (if eqb k j then on else bit b j)
-    pick true t = same (bit (putBit b k true) j) (if eqb k j then true else bit b j) (and-left (Bool·beq (bit (putBit b k true) j) (if eqb k j then true else bit b j)) (Bool·beq (bit (putBit b k false) j) (if eqb k j then false else bit b j)) t)
-    pick false t = same (bit (putBit b k false) j) (if eqb k j then false else bit b j) (and-right (Bool·beq (bit (putBit b k true) j) (if eqb k j then true else bit b j)) (Bool·beq (bit (putBit b k false) j) (if eqb k j then false else bit b j)) t)
+bit-put b k j on hb hk hj =
+    same (bit (putBit b k on) j) (if eqb k j then on else bit b j)
+    (of-both (bit-test b k j) (below 8 (λ j. both (bit-test b k j)) (at-byte (λ b k. allBelow 8 (λ j. both (bit-test b k j))) tt b k hb hk) j hj) on)
 
 -- a byte with one bit changed is a byte
-byte-tests : T (allBelow 256 (λ b. allBelow 8 (λ k. ltb (putBit b k true) 256 && ltb (putBit b k false) 256)))
-byte-tests = tt
-
 pub putBit-byte : (b k : ℕ) (on : Bool) → b < 256 → k < 8 → putBit b k on < 256
-putBit-byte b k on hb hk = pick on (below 8 (λ k. ltb (putBit b k true) 256 && ltb (putBit b k false) 256) (below 256 (λ b. allBelow 8 (λ k. ltb (putBit b k true) 256 && ltb (putBit b k false) 256)) byte-tests b hb) k hk)
-  where
-    pick : (on : Bool) → T (ltb (putBit b k true) 256 && ltb (putBit b k false) 256) → putBit b k on < 256
-    pick true t = ltb→lt (putBit b k true) 256 (and-left (ltb (putBit b k true) 256) (ltb (putBit b k false) 256) t)
-    pick false t = ltb→lt (putBit b k false) 256 (and-right (ltb (putBit b k true) 256) (ltb (putBit b k false) 256) t)
+putBit-byte b k on hb hk =
+    ltb→lt (putBit b k on) 256
+    (of-both (λ on. ltb (putBit b k on) 256) (at-byte (λ b k. both (λ on. ltb (putBit b k on) 256)) tt b k hb hk) on)
 
 -- a vector's byte lies within the register, and a vector has a byte and bit of its own
 pub vector-within : (v : ℕ) → v < 256 → vectorByte v < 0x80
@@ -103,19 +91,9 @@ pub isSet-other : (p : List ℕ) (base at x w : ℕ) → (base + vectorByte w �
 unfolding isSet
 isSet-other p base at x w ne = ap (λ b. bit b (w % 8)) (getD-set-other p at (base + vectorByte w) x 0 ne)
 
--- a register with one more vector set has the larger of its highest and that vector as its highest
-pub highest-raised : (p q : List ℕ) (base v : ℕ) → v < 256 → ((w : ℕ) → w < 256 → isSet q base w ≡ put (isSet p base) v true w) → highest q base ≡ larger (highest p base) v
-unfolding highest
-highest-raised p q base v h e =
-    highest-top q base 256
-    ∙ top-ext (isSet q base) (put (isSet p base) v true) 256 e
-    ∙ top-raise (isSet p base) 256 v h
-    ∙ ap (λ t. larger t v) (sym (highest-top p base 256))
-
 -- registers that agree bit by bit have one highest vector
 pub highest-ext : (p q : List ℕ) (base : ℕ) → ((w : ℕ) → w < 256 → isSet p base w ≡ isSet q base w) → highest p base ≡ highest q base
-unfolding highest
-highest-ext p q base h = highest-top p base 256 ∙ top-ext (isSet p base) (isSet q base) 256 h ∙ sym (highest-top q base 256)
+highest-ext p q base h = highest-same p q base base h
 
 -- a register with fewer bits has no higher vector
 pub highest-fewer : (p q : List ℕ) (base : ℕ) → ((w : ℕ) → w < 256 → isSet q base w ≡ true → isSet p base w ≡ true) → highest q base ≤ highest p base

@@ -6,10 +6,9 @@ use mathlib.Core.Path.{_≡_, refl, sym, _∙_, ap, subst}
 use mathlib.Core.Bool.{Bool, true, false, true≢false}
 use mathlib.Core.List.{List}
 use lib.Dec.{eqb, ltb}
-use borrow.Author.Tests.{eqb-true, eqb-false, ltb-true, ltb-false}
-use Rattle.processor.specs.Logic.{if_then_else_}
-use Rattle.rules.specs.Procedures.{larger}
-use Rattle.registers.specs.Vectors.{isSet, put, highestBelow}
+use borrow.Author.Tests.{eq-eqb, eqb-true, eqb-false, ltb-true, ltb-false}
+use Rattle.processor.specs.Logic.{if_then_else_, larger}
+use Rattle.registers.specs.Vectors.{isSet, put, highestBelow, highest}
 
 -- the highest set place below n, 0 where there is none
 abbrev pub top : (ℕ → Bool) → ℕ → ℕ
@@ -26,6 +25,11 @@ highest-top p base (suc v) = simp (highest-top p base v)
 pub top-ext : (f g : ℕ → Bool) (n : ℕ) → ((w : ℕ) → w < n → f w ≡ g w) → top f n ≡ top g n
 top-ext f g zero h = refl
 top-ext f g (suc v) h = simp (h v (le-refl (suc v)), top-ext f g v (λ w l. h w (omega arith)))
+
+-- registers that agree bit by bit have one highest vector, wherever they lie
+pub highest-same : (p q : List ℕ) (a b : ℕ) → ((w : ℕ) → w < 256 → isSet p a w ≡ isSet q b w) → highest p a ≡ highest q b
+unfolding highest
+highest-same p q a b h = highest-top p a 256 ∙ top-ext (isSet p a) (isSet q b) 256 h ∙ sym (highest-top q b 256)
 
 pub top-below : (f : ℕ → Bool) (n : ℕ) → 0 < n → top f n < n
 top-below f zero h = absurd (not-suc-le-zero h)
@@ -89,10 +93,7 @@ unfolding larger
 top-raise f n v h = go (ltb (top f n) v) refl
   where
     at-place : put f v true v ≡ true
-    at-place = simp (eqb-same v)
-      where
-        eqb-same : (v : ℕ) → eqb v v ≡ true
-        eqb-same v = borrow.Author.Tests.eq-eqb v v refl
+    at-place = simp (eq-eqb v v refl)
 
     kept : (w : ℕ) → f w ≡ true → put f v true w ≡ true
     kept w t = by (eqb v w)

@@ -42,7 +42,7 @@ highestBelow p base (suc v) = if isSet p base v then v else highestBelow p base 
 unfoldable pub highest : List ℕ → ℕ → ℕ
 highest p base = highestBelow p base 256
 
--- the highest set bit of a word below bit n, counted from 1; 0 where none is set
+-- what the search asks of a word: its highest set bit below bit n, counted from 1; 0 where none is set
 unfoldable pub highestBit : ℕ → ℕ → ℕ
 highestBit word zero = 0
 highestBit word (suc k) = if bit word k then suc k else highestBit word k

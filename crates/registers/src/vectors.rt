@@ -33,11 +33,12 @@ fn put_in(register: &mut [u8], vector: u8, on: bool)
 }
 
 // The vector's bit on, or off, in the page's register at the base.
-pub fn put_vector(page: &mut [u8], base: usize, vector: u8, on: bool)
+pub fn put_vector(page: &mut [u8], base: u16, vector: u8, on: bool)
     ensures { λ _. ⌜ now (page .exit) ≡ putVector (now (page .entry)) base vector on ⌝ }
 {
-    if base <= page.len() {
-        put_in(&mut page[base..], vector, on);
+    let at = base as usize;
+    if at <= page.len() {
+        put_in(&mut page[at..], vector, on);
     }
 }
 
@@ -55,17 +56,28 @@ fn highest_bit(word: u32) -> u32
     0
 }
 
-// The highest set vector of the page's register at the base, 0 where it is empty: its eight words from the top.
-pub fn highest_vector(page: &[u8], base: u16) -> u8
-    ensures { λ r. ⌜ r ≡ highest (now (page .entry)) base ⌝ }
+// The highest set vector of a register that starts where the slice does, 0 where it is empty: its eight words from the top.
+fn highest_in(register: &[u8]) -> u8
+    ensures { λ r. ⌜ r ≡ highest (now (register .entry)) 0 ⌝ }
 {
     let mut left: u32 = 8;
     while 0 < left {
-        let found = highest_bit(word_at(page, base as u32 + 16 * (left - 1)));
+        let found = highest_bit(word_at(register, (16 * (left - 1)) as u16));
         if 0 < found {
             return ((32 * (left - 1) + found - 1) % 256) as u8;
         }
         left = left - 1;
+    }
+    0
+}
+
+// The highest set vector of the page's register at the base, 0 where it is empty.
+pub fn highest_vector(page: &[u8], base: u16) -> u8
+    ensures { λ r. ⌜ r ≡ highest (now (page .entry)) base ⌝ }
+{
+    let at = base as usize;
+    if at <= page.len() {
+        return highest_in(&page[at..]);
     }
     0
 }

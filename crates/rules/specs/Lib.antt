@@ -1,2 +1,2 @@
-pub mod Entry
-pub mod Procedures
+pub mod EntryChecks
+pub mod Priorities

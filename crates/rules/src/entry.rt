@@ -1,6 +1,6 @@
 // The entry checks, and when exit 43 follows an entry at once.
 ghost use mathlib.Core.Path.{_≡_};
-ghost use Rattle.rules.specs.Entry.{check1, check2, check3, check4, failingCheck, exitsAtEntry};
+ghost use Rattle.rules.specs.EntryChecks.{check1, check2, check3, check4, failingCheck, exitsAtEntry};
 use processor::controls::APIC_REGISTER_VIRTUALIZATION;
 use processor::controls::Controls;
 use processor::controls::EXTERNAL_INTERRUPT_EXITING;

@@ -1,19 +1,19 @@
-// Shows the model at work: one session of bench cases K1 to K3, then one wake-up call with ICR bit 13 off and with it on.
+// Shows the model at work: one session of bench cases K1 to K3, then one wake-up call with ICR bit 13 off and with it on, then a guest
+// that leaves.
 use crate::words::say;
 use crate::words::say_answer;
 use crate::words::say_requests;
 use crate::words::say_status;
 use events::event::Event;
 use model::fresh_record;
+use model::leave;
 use model::step;
 use processor::controls::Controls;
 use processor::controls::Record;
+use processor::offsets::VEOI;
+use processor::offsets::VICR_LO;
 
 mod words;
-
-const VEOI: u16 = 0x0b0;
-
-const VICR_LO: u16 = 0x300;
 
 // "M": controls 0, 1, 4 and 5 on.
 fn controls_m() -> Controls {
@@ -148,6 +148,25 @@ fn show_call_left(page: &mut [u8], serving: Record) {
     show_boundary(page, entered);
 }
 
+// The guest leaves for a reason outside the model.
+fn show_left(page: &[u8], record: Record) -> Record {
+    let outcome = leave(record);
+    let answer = outcome.answer;
+    let next = outcome.record;
+    say(b"  the guest leaves:                          ");
+    say_answer(answer);
+    say_status(page, next);
+    next
+}
+
+fn show_leave(page: &mut [u8], serving: Record) {
+    say(b"\nThe guest leaves by CPUID with 71H requested: the request waits for the next entry.\n");
+    let requested = show_self_ipi(page, serving);
+    let left = show_left(page, requested);
+    let entered = show_entry(page, left);
+    show_boundary(page, entered);
+}
+
 fn main() {
     say(
         b"Values in hex; answer and exit numbers in decimal. RVI, SVI and VPPR are those after the event.\n",
@@ -157,7 +176,9 @@ fn main() {
     let serving = show_k1(&mut page);
     let mut page_sent = page;
     let mut page_left = page;
+    let mut page_leave = page;
     show_k2_and_k3(&mut page, serving);
     show_call_sent(&mut page_sent, serving);
     show_call_left(&mut page_left, serving);
+    show_leave(&mut page_leave, serving);
 }

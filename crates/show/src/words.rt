@@ -3,13 +3,13 @@ use events::answer::Answer;
 use page::bytes::byte_at;
 use page::bytes::word_at;
 use processor::controls::Record;
+use processor::offsets::VIRR;
+use processor::offsets::VPPR;
 
 const OUT: i32 = 1;
 
-const VPPR: usize = 0x0a0;
-
 // The word of VIRR that holds vectors 60H to 7FH.
-const REQUESTS: u32 = 0x230;
+const REQUESTS: u16 = VIRR + 0x30;
 
 pub fn say(words: &[u8]) {
     io::write_all(OUT, words);

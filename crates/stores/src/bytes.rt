@@ -4,7 +4,8 @@ ghost use Prim.Native.Nat.{_+_, _≤_};
 ghost use lib.ListN.{length};
 ghost use Rattle.stores.specs.Stores.{setByte, setHalf, setWord, setLong, storeAt};
 
-pub fn set_byte(page: &mut [u8], at: usize, value: u8)
+// A byte stored at a place of the slice, nothing past its end.
+fn set_byte_from(page: &mut [u8], at: usize, value: u8)
     ensures { λ _. ⌜ now (page .exit) ≡ setByte (now (page .entry)) at value ⌝ }
 {
     if at < page.len() {
@@ -12,12 +13,18 @@ pub fn set_byte(page: &mut [u8], at: usize, value: u8)
     }
 }
 
+pub fn set_byte(page: &mut [u8], offset: u16, value: u8)
+    ensures { λ _. ⌜ now (page .exit) ≡ setByte (now (page .entry)) offset value ⌝ }
+{
+    set_byte_from(page, offset as usize, value);
+}
+
 fn set_half(page: &mut [u8], offset: u16, value: u16)
     ensures { λ _. ⌜ now (page .exit) ≡ setHalf (now (page .entry)) offset value ⌝ }
 {
     let at = offset as usize;
-    set_byte(page, at, (value % 0x100) as u8);
-    set_byte(page, at + 1, (value / 0x100 % 0x100) as u8);
+    set_byte_from(page, at, (value % 0x100) as u8);
+    set_byte_from(page, at + 1, (value / 0x100 % 0x100) as u8);
 }
 
 // Four bytes that the slice has.
@@ -31,7 +38,18 @@ fn set_whole_word(page: &mut [u8], at: usize, value: u32)
     page[at + 3] = (value / 0x100_0000 % 0x100) as u8;
 }
 
-pub fn set_word(page: &mut [u8], offset: u32, value: u32)
+// Four bytes of which the slice may lack some.
+fn set_word_from(page: &mut [u8], from: u32, value: u32)
+    ensures { λ _. ⌜ now (page .exit) ≡ setWord (now (page .entry)) from value ⌝ }
+{
+    let at = from as usize;
+    set_byte_from(page, at, (value % 0x100) as u8);
+    set_byte_from(page, at + 1, (value / 0x100 % 0x100) as u8);
+    set_byte_from(page, at + 2, (value / 0x1_0000 % 0x100) as u8);
+    set_byte_from(page, at + 3, (value / 0x100_0000 % 0x100) as u8);
+}
+
+pub fn set_word(page: &mut [u8], offset: u16, value: u32)
     ensures { λ _. ⌜ now (page .exit) ≡ setWord (now (page .entry)) offset value ⌝ }
 {
     let at = offset as usize;
@@ -39,10 +57,7 @@ pub fn set_word(page: &mut [u8], offset: u32, value: u32)
         set_whole_word(page, at, value);
         return;
     }
-    set_byte(page, at, (value % 0x100) as u8);
-    set_byte(page, at + 1, (value / 0x100 % 0x100) as u8);
-    set_byte(page, at + 2, (value / 0x1_0000 % 0x100) as u8);
-    set_byte(page, at + 3, (value / 0x100_0000 % 0x100) as u8);
+    set_word_from(page, offset as u32, value);
 }
 
 // Eight bytes that the slice has.
@@ -63,8 +78,8 @@ pub fn set_long(page: &mut [u8], offset: u16, value: u64)
         return;
     }
     let from = offset as u32;
-    set_word(page, from, (value % 0x1_0000_0000) as u32);
-    set_word(page, from + 4, (value / 0x1_0000_0000) as u32);
+    set_word_from(page, from, (value % 0x1_0000_0000) as u32);
+    set_word_from(page, from + 4, (value / 0x1_0000_0000) as u32);
 }
 
 // The bytes of a write, by its size.
@@ -72,7 +87,7 @@ pub fn store_at(page: &mut [u8], offset: u16, size: u8, value: u64)
     ensures { λ _. ⌜ now (page .exit) ≡ storeAt (now (page .entry)) offset size value ⌝ }
 {
     if size == 1 {
-        set_byte(page, offset as usize, (value % 0x100) as u8);
+        set_byte(page, offset, (value % 0x100) as u8);
         return;
     }
     if size == 2 {
@@ -80,7 +95,7 @@ pub fn store_at(page: &mut [u8], offset: u16, size: u8, value: u64)
         return;
     }
     if size == 4 {
-        set_word(page, offset as u32, (value % 0x1_0000_0000) as u32);
+        set_word(page, offset, (value % 0x1_0000_0000) as u32);
         return;
     }
     set_long(page, offset, value);

@@ -10,12 +10,6 @@ returns : tie.Need-returns
 unfolding ggFresh
 returns c = simp (ne-eqb _ _ (c .if1 .taken)) (search needs)
 
-clear-requires : tie.Need-clear-requires
-clear-requires c κs = tt
-
-same-length : tie.Need-same-length
-same-length c = search needs
-
 returns-2 : tie.Need-returns-2
 unfolding ggFresh
 returns-2 c =
@@ -23,4 +17,4 @@ returns-2 c =
     (record { answer = refl; recordBytes = rw (c .before .before .before .before .if1 .left) at (c .before .before .clear .ensures) })
 
 pub gg-fresh-spec : {M : Type 1} → statement M
-gg-fresh-spec = tie.close (tie.spec returns clear-requires same-length returns-2)
+gg-fresh-spec = tie.close (tie.spec returns (λ c κs. tt) (λ c. search needs) returns-2)

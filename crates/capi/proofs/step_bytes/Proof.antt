@@ -6,38 +6,17 @@ use borrow.Author.Needs.{needs}
 use Rattle.capi.proofs.step_bytes.Statement.{statement}
 use Rattle.capi.proofs.step_bytes.Tie as tie
 
-refused-requires : tie.Need-refused-requires
-refused-requires c κs = tt
-
 returns : tie.Need-returns
 unfolding ggStep
 returns c = simp (ne-eqb _ _ (c .before .if1 .taken)) (refusal 1 _ _ _ (c .refused .ensures))
-
-refused-requires-2 : tie.Need-refused-requires-2
-refused-requires-2 c κs = tt
 
 returns-2 : tie.Need-returns-2
 unfolding ggStep
 returns-2 c = simp (eq-eqb _ _ (c .before .before .if1 .left), ne-eqb _ _ (c .before .if2 .taken)) (refusal 2 _ _ _ (c .refused2 .ensures))
 
-refused-requires-3 : tie.Need-refused-requires-3
-refused-requires-3 c κs = tt
-
 returns-3 : tie.Need-returns-3
 unfolding ggStep
 returns-3 c = simp (eq-eqb _ _ (c .before .before .before .if1 .left), eq-eqb _ _ (c .before .before .if2 .left), ne-eqb _ _ (c .before .if3 .taken)) (refusal 2 _ _ _ (c .refused3 .ensures))
-
-record-readable-requires : tie.Need-record-readable-requires
-record-readable-requires c κs = tt
-
-event-readable-requires : tie.Need-event-readable-requires
-event-readable-requires c κs = tt
-
-refused-requires-4 : tie.Need-refused-requires-4
-refused-requires-4 c κs = tt
-
-same-length : tie.Need-same-length
-same-length c = search needs
 
 returns-4 : tie.Need-returns-4
 unfolding ggStep
@@ -46,15 +25,6 @@ returns-4 c =
     let lengths = unreadable .before .before .before .before in
     simp (eq-eqb _ _ (lengths .before .before .if1 .left), eq-eqb _ _ (lengths .before .if2 .left), eq-eqb _ _ (lengths .if3 .left), ← (unreadable .before .before .record-readable .ensures), ← (unreadable .before .event-readable .ensures), unreadable .if4 .taken)
     (refusal 2 _ _ _ (c .refused4 .ensures))
-
-model-reply-requires : tie.Need-model-reply-requires
-model-reply-requires c κs = tt
-
-same-length-2 : tie.Need-same-length-2
-same-length-2 c = search needs
-
-same-length-3 : tie.Need-same-length-3
-same-length-3 c = search needs
 
 returns-5 : tie.Need-returns-5
 unfolding ggStep
@@ -69,18 +39,18 @@ pub step-bytes-spec : {M : Type 1} → statement M
 step-bytes-spec =
     tie.close
     (tie.spec
-    refused-requires
+    (λ c κs. tt)
     returns
-    refused-requires-2
+    (λ c κs. tt)
     returns-2
-    refused-requires-3
+    (λ c κs. tt)
     returns-3
-    record-readable-requires
-    event-readable-requires
-    refused-requires-4
-    same-length
+    (λ c κs. tt)
+    (λ c κs. tt)
+    (λ c κs. tt)
+    (λ c. search needs)
     returns-4
-    model-reply-requires
-    same-length-2
-    same-length-3
+    (λ c κs. tt)
+    (λ c. search needs)
+    (λ c. search needs)
     returns-5)

@@ -1,17 +1,11 @@
 -- `accesses::memory::memory_access` meets its contract: code and definition take the same cases. Assumes nothing.
-use Rattle.accesses.specs.Memory.{memoryAccess}
+use Rattle.accesses.specs.Accesses.{memoryAccess}
 use Rattle.accesses.proofs.memory.memory_access.Statement.{statement}
 use Rattle.accesses.proofs.memory.memory_access.Tie as tie
-
-is-on-requires : tie.Need-is-on-requires
-is-on-requires c κs = tt
 
 returns : tie.Need-returns
 unfolding memoryAccess
 returns c = simp (← (c .before .is-on .ensures), c .if1 .taken)
-
-access-exits-requires : tie.Need-access-exits-requires
-access-exits-requires c κs = tt
 
 returns-2 : tie.Need-returns-2
 unfolding memoryAccess
@@ -24,4 +18,4 @@ returns-3 c = simp (← (c .before .before .before .is-on .ensures), c .before .
 pub memory-access-spec : {M : Type 1} → statement M
 memory-access-spec =
     tie.close
-    (tie.spec is-on-requires returns access-exits-requires returns-2 returns-3)
+    (tie.spec (λ c κs. tt) returns (λ c κs. tt) returns-2 returns-3)

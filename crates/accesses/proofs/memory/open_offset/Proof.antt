@@ -1,13 +1,8 @@
 -- `accesses::memory::open_offset` meets its contract: each setting's mark says what its rule says. Assumes nothing.
-use Rattle.accesses.specs.Memory.{openOffset}
+use native.Mathlib.Nat.{div-one}
+use Rattle.accesses.specs.Accesses.{openOffset}
 use Rattle.accesses.proofs.memory.open_offset.Statement.{statement}
 use Rattle.accesses.proofs.memory.open_offset.Tie as tie
-
-marks-requires : tie.Need-marks-requires
-marks-requires c κs = tt
-
-is-on-requires : tie.Need-is-on-requires
-is-on-requires c κs = tt
 
 returns : tie.Need-returns
 unfolding openOffset
@@ -21,9 +16,6 @@ returns-2 c =
     let at-control = c .before .before in
     simp (← (at-control .is-on .ensures), c .before .if1 .taken, c .if2 .left) (at-control .before .marks .ensures .read)
 
-is-on-requires-2 : tie.Need-is-on-requires-2
-is-on-requires-2 c κs = tt
-
 returns-3 : tie.Need-returns-3
 unfolding openOffset
 returns-3 c =
@@ -34,16 +26,16 @@ returns-4 : tie.Need-returns-4
 unfolding openOffset
 returns-4 c =
     let at-control = c .before .before .before in
-    simp (← (at-control .is-on .ensures), c .before .before .if1 .left, ← (c .before .is-on2 .ensures), c .if3 .left) (at-control .before .marks .ensures .tpr)
+    simp (← (at-control .is-on .ensures), c .before .before .if1 .left, ← (c .before .is-on2 .ensures), c .if3 .left) (rw div-one at (at-control .before .marks .ensures .tpr))
 
 pub open-offset-spec : {M : Type 1} → statement M
 open-offset-spec =
     tie.close
     (tie.spec
-    marks-requires
-    is-on-requires
+    (λ c κs. tt)
+    (λ c κs. tt)
     returns
     returns-2
-    is-on-requires-2
+    (λ c κs. tt)
     returns-3
     returns-4)

@@ -2,8 +2,5 @@
 use Rattle.accesses.proofs.memory.open_table.Statement.{statement}
 use Rattle.accesses.proofs.memory.open_table.Tie as tie
 
-returns : tie.Need-returns
-returns c = tt
-
 pub open-table-spec : {M : Type 1} → statement M
-open-table-spec = tie.close (tie.spec returns)
+open-table-spec = tie.close (tie.spec (λ c. tt))

@@ -4,11 +4,8 @@ use borrow.Author.Needs.{needs}
 use Rattle.accesses.proofs.memory.write_qualification.Statement.{statement}
 use Rattle.accesses.proofs.memory.write_qualification.Tie as tie
 
-add-result : tie.Need-add-result
-add-result c = search needs
-
 returns : tie.Need-returns
 returns c = refl
 
 pub write-qualification-spec : {M : Type 1} → statement M
-write-qualification-spec = tie.close (tie.spec add-result returns)
+write-qualification-spec = tie.close (tie.spec (λ c. search needs) returns)

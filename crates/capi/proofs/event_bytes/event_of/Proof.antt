@@ -1,38 +1,8 @@
 -- `capi::event_bytes::event_of` meets its contract: code and definition take the same cases. Assumes nothing.
 use borrow.Author.Tests.{ne-eqb}
-use Rattle.capi.specs.Events.{eventOf}
+use Rattle.capi.specs.EventBytes.{eventOf}
 use Rattle.capi.proofs.event_bytes.event_of.Statement.{statement}
 use Rattle.capi.proofs.event_bytes.event_of.Tie as tie
-
-byte-at-requires : tie.Need-byte-at-requires
-byte-at-requires c κs = tt
-
-controls-of-requires : tie.Need-controls-of-requires
-controls-of-requires c κs = tt
-
-memory-read-of-requires : tie.Need-memory-read-of-requires
-memory-read-of-requires c κs = tt
-
-memory-write-of-requires : tie.Need-memory-write-of-requires
-memory-write-of-requires c κs = tt
-
-to-cr8-of-requires : tie.Need-to-cr8-of-requires
-to-cr8-of-requires c κs = tt
-
-byte-at-requires-2 : tie.Need-byte-at-requires-2
-byte-at-requires-2 c κs = tt
-
-word-at-requires : tie.Need-word-at-requires
-word-at-requires c κs = tt
-
-wrmsr-of-requires : tie.Need-wrmsr-of-requires
-wrmsr-of-requires c κs = tt
-
-boundary-of-requires : tie.Need-boundary-of-requires
-boundary-of-requires c κs = tt
-
-request-of-requires : tie.Need-request-of-requires
-request-of-requires c κs = tt
 
 returns : tie.Need-returns
 unfolding eventOf
@@ -56,7 +26,7 @@ returns-5 c = simp (← (c .before .before .byte-at .ensures), c .before .match 
 
 returns-6 : tie.Need-returns-6
 unfolding eventOf
-returns-6 c = simp (← (c .before .before .byte-at .ensures), c .before .match .keys6, ← (c .word-at .ensures))
+returns-6 c = simp (← (c .before .before .byte-at .ensures), c .before .match .keys6, ← (c .word-within .ensures))
 
 returns-7 : tie.Need-returns-7
 unfolding eventOf
@@ -86,16 +56,16 @@ pub event-of-spec : {M : Type 1} → statement M
 event-of-spec =
     tie.close
     (tie.spec
-    byte-at-requires
-    controls-of-requires
-    memory-read-of-requires
-    memory-write-of-requires
-    to-cr8-of-requires
-    byte-at-requires-2
-    word-at-requires
-    wrmsr-of-requires
-    boundary-of-requires
-    request-of-requires
+    (λ c κs. tt)
+    (λ c κs. tt)
+    (λ c κs. tt)
+    (λ c κs. tt)
+    (λ c κs. tt)
+    (λ c κs. tt)
+    (λ c κs. tt)
+    (λ c κs. tt)
+    (λ c κs. tt)
+    (λ c κs. tt)
     returns
     returns-2
     returns-3

@@ -1,30 +1,12 @@
 -- `capi::event_bytes::event_readable` meets its contract: code and definition take the same cases. Assumes nothing.
 use borrow.Author.Tests.{ne-eqb}
-use Rattle.capi.specs.Events.{eventReadable}
+use Rattle.capi.specs.EventBytes.{eventReadable}
 use Rattle.capi.proofs.event_bytes.event_readable.Statement.{statement}
 use Rattle.capi.proofs.event_bytes.event_readable.Tie as tie
 
-byte-at-requires : tie.Need-byte-at-requires
-byte-at-requires c κs = tt
-
-memory-readable-requires : tie.Need-memory-readable-requires
-memory-readable-requires c κs = tt
-
-memory-readable-requires-2 : tie.Need-memory-readable-requires-2
-memory-readable-requires-2 c κs = tt
-
-long-at-requires : tie.Need-long-at-requires
-long-at-requires c κs = tt
-
-byte-at-requires-2 : tie.Need-byte-at-requires-2
-byte-at-requires-2 c κs = tt
-
-word-at-requires : tie.Need-word-at-requires
-word-at-requires c κs = tt
-
 returns : tie.Need-returns
 unfolding eventReadable
-returns c = simp (← (c .before .byte-at .ensures), c .match .keys1)
+returns c = simp (← (c .before .before .byte-at .ensures), c .before .match .keys1, ← (c .reserved-zero .ensures))
 
 returns-2 : tie.Need-returns-2
 unfolding eventReadable
@@ -36,7 +18,7 @@ returns-3 c = simp (← (c .before .before .byte-at .ensures), c .before .match 
 
 returns-4 : tie.Need-returns-4
 unfolding eventReadable
-returns-4 c = simp (← (c .before .before .byte-at .ensures), c .before .match .keys4, ← (c .long-at .ensures))
+returns-4 c = simp (← (c .before .before .byte-at .ensures), c .before .match .keys4, ← (c .long-within .ensures))
 
 returns-5 : tie.Need-returns-5
 unfolding eventReadable
@@ -56,7 +38,7 @@ returns-8 c = simp (← (c .before .before .byte-at .ensures), c .before .match 
 
 returns-9 : tie.Need-returns-9
 unfolding eventReadable
-returns-9 c = simp (← (c .before .before .byte-at .ensures), c .before .match .keys9, ← (c .word-at .ensures))
+returns-9 c = simp (← (c .before .before .byte-at .ensures), c .before .match .keys9, ← (c .word-within .ensures))
 
 returns-10 : tie.Need-returns-10
 unfolding eventReadable
@@ -78,12 +60,13 @@ pub event-readable-spec : {M : Type 1} → statement M
 event-readable-spec =
     tie.close
     (tie.spec
-    byte-at-requires
-    memory-readable-requires
-    memory-readable-requires-2
-    long-at-requires
-    byte-at-requires-2
-    word-at-requires
+    (λ c κs. tt)
+    (λ c κs. tt)
+    (λ c κs. tt)
+    (λ c κs. tt)
+    (λ c κs. tt)
+    (λ c κs. tt)
+    (λ c κs. tt)
     returns
     returns-2
     returns-3

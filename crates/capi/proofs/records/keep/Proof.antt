@@ -1,6 +1,6 @@
 -- `capi::records::keep` meets its contract: code and definition take the same cases. Assumes nothing.
 use borrow.Author.Tests.{lt-ltb, le-ltb}
-use Rattle.capi.specs.Records.{kept}
+use Rattle.capi.specs.RecordBytes.{kept}
 use borrow.Author.Needs.{needs}
 use Rattle.capi.proofs.records.keep.Statement.{statement}
 use Rattle.capi.proofs.records.keep.Tie as tie
@@ -9,15 +9,9 @@ returns : tie.Need-returns
 unfolding kept
 returns c = simp (lt-ltb _ _ (c .if1 .taken))
 
-record-bytes-requires : tie.Need-record-bytes-requires
-record-bytes-requires c κs = tt
-
-same-length : tie.Need-same-length
-same-length c = search needs
-
 returns-2 : tie.Need-returns-2
 unfolding kept
 returns-2 c = simp (le-ltb _ _ (c .before .before .before .before .if1 .left), ← (c .before .before .record-bytes .ensures))
 
 pub keep-spec : {M : Type 1} → statement M
-keep-spec = tie.close (tie.spec returns record-bytes-requires same-length returns-2)
+keep-spec = tie.close (tie.spec returns (λ c κs. tt) (λ c. search needs) returns-2)

@@ -1,5 +1,5 @@
 -- `capi::records::truth_byte` meets its contract: code and definition take the same cases. Assumes nothing.
-use Rattle.capi.specs.Records.{truthByte}
+use Rattle.capi.specs.RecordBytes.{truthByte}
 use Rattle.capi.proofs.records.truth_byte.Statement.{statement}
 use Rattle.capi.proofs.records.truth_byte.Tie as tie
 

@@ -4,42 +4,6 @@ use borrow.Author.Needs.{needs}
 use Rattle.events.proofs.event.event_in_bounds.Statement.{statement}
 use Rattle.events.proofs.event.event_in_bounds.Tie as tie
 
-enum-known-event : tie.Need-enum-known-event
-enum-known-event c = search needs
-
-flags-in-bounds-requires : tie.Need-flags-in-bounds-requires
-flags-in-bounds-requires c κs = tt
-
-enum-known-event-2 : tie.Need-enum-known-event-2
-enum-known-event-2 c = search needs
-
-enum-known-event-3 : tie.Need-enum-known-event-3
-enum-known-event-3 c = search needs
-
-size-in-bounds-requires : tie.Need-size-in-bounds-requires
-size-in-bounds-requires c κs = tt
-
-enum-known-event-4 : tie.Need-enum-known-event-4
-enum-known-event-4 c = search needs
-
-value-in-bounds-requires : tie.Need-value-in-bounds-requires
-value-in-bounds-requires c κs = tt
-
-enum-known-event-5 : tie.Need-enum-known-event-5
-enum-known-event-5 c = search needs
-
-enum-known-event-6 : tie.Need-enum-known-event-6
-enum-known-event-6 c = search needs
-
-enum-told : tie.Need-enum-told
-enum-told c = search needs
-
-enum-told-2 : tie.Need-enum-told-2
-enum-told-2 c = search needs
-
-enum-known-event-7 : tie.Need-enum-known-event-7
-enum-known-event-7 c = search needs
-
 returns : tie.Need-returns
 unfolding eventInBounds
 returns c = simp (c .before .before .event .given .1, ← (c .flags-in-bounds .ensures))
@@ -80,18 +44,18 @@ pub event-in-bounds-spec : {M : Type 1} → statement M
 event-in-bounds-spec =
     tie.close
     (tie.spec
-    enum-known-event
-    flags-in-bounds-requires
-    enum-known-event-2
-    enum-known-event-3
-    size-in-bounds-requires
-    enum-known-event-4
-    value-in-bounds-requires
-    enum-known-event-5
-    enum-known-event-6
-    enum-told
-    enum-told-2
-    enum-known-event-7
+    (λ c. search needs)
+    (λ c κs. tt)
+    (λ c. search needs)
+    (λ c. search needs)
+    (λ c κs. tt)
+    (λ c. search needs)
+    (λ c κs. tt)
+    (λ c. search needs)
+    (λ c. search needs)
+    (λ c. search needs)
+    (λ c. search needs)
+    (λ c. search needs)
     returns
     returns-2
     returns-3

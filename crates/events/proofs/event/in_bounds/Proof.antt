@@ -2,14 +2,8 @@
 use Rattle.events.proofs.event.in_bounds.Statement.{statement}
 use Rattle.events.proofs.event.in_bounds.Tie as tie
 
-flags-in-bounds-requires : tie.Need-flags-in-bounds-requires
-flags-in-bounds-requires c κs = tt
-
-event-in-bounds-requires : tie.Need-event-in-bounds-requires
-event-in-bounds-requires c κs = tt
-
 returns : tie.Need-returns
 returns c = simp (← (c .before .flags-in-bounds .ensures), ← (c .event-in-bounds .ensures))
 
 pub in-bounds-spec : {M : Type 1} → statement M
-in-bounds-spec = tie.close (tie.spec flags-in-bounds-requires event-in-bounds-requires returns)
+in-bounds-spec = tie.close (tie.spec (λ c κs. tt) (λ c κs. tt) returns)

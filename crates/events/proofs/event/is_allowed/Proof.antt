@@ -3,9 +3,6 @@ use Rattle.events.specs.Events.{allowed}
 use Rattle.events.proofs.event.is_allowed.Statement.{statement}
 use Rattle.events.proofs.event.is_allowed.Tie as tie
 
-root-only-requires : tie.Need-root-only-requires
-root-only-requires c κs = tt
-
 returns : tie.Need-returns
 unfolding allowed
 returns c = simp (← (c .before .before .root-only .ensures), c .before .if1 .taken)
@@ -15,4 +12,4 @@ unfolding allowed
 returns-2 c = simp (← (c .before .root-only .ensures), c .if1 .left)
 
 pub is-allowed-spec : {M : Type 1} → statement M
-is-allowed-spec = tie.close (tie.spec root-only-requires returns returns-2)
+is-allowed-spec = tie.close (tie.spec (λ c κs. tt) returns returns-2)

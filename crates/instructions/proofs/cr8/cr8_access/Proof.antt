@@ -1,17 +1,11 @@
 -- `instructions::cr8::cr8_access` meets its contract: code and definition take the same cases. Assumes nothing.
-use Rattle.instructions.specs.Cr8Msr.{cr8Access}
+use Rattle.instructions.specs.Instructions.{cr8Access}
 use Rattle.instructions.proofs.cr8.cr8_access.Statement.{statement}
 use Rattle.instructions.proofs.cr8.cr8_access.Tie as tie
-
-is-on-requires : tie.Need-is-on-requires
-is-on-requires c κs = tt
 
 returns : tie.Need-returns
 unfolding cr8Access
 returns c = simp (← (c .before .is-on .ensures), c .if1 .taken)
-
-is-on-requires-2 : tie.Need-is-on-requires-2
-is-on-requires-2 c κs = tt
 
 returns-2 : tie.Need-returns-2
 unfolding cr8Access
@@ -22,4 +16,4 @@ unfolding cr8Access
 returns-3 c = simp (← (c .before .before .before .is-on .ensures), c .before .before .if1 .left, ← (c .before .is-on2 .ensures), c .if2 .left)
 
 pub cr8-access-spec : {M : Type 1} → statement M
-cr8-access-spec = tie.close (tie.spec is-on-requires returns is-on-requires-2 returns-2 returns-3)
+cr8-access-spec = tie.close (tie.spec (λ c κs. tt) returns (λ c κs. tt) returns-2 returns-3)

@@ -4,14 +4,8 @@ use borrow.Author.Needs.{needs}
 use Rattle.instructions.proofs.cr8.cr8_qualification.Statement.{statement}
 use Rattle.instructions.proofs.cr8.cr8_qualification.Tie as tie
 
-mul-result : tie.Need-mul-result
-mul-result c = search needs
-
-add-result : tie.Need-add-result
-add-result c = search needs
-
 returns : tie.Need-returns
 returns c = refl
 
 pub cr8-qualification-spec : {M : Type 1} → statement M
-cr8-qualification-spec = tie.close (tie.spec mul-result add-result returns)
+cr8-qualification-spec = tie.close (tie.spec (λ c. search needs) (λ c. search needs) returns)

@@ -4,14 +4,8 @@ use borrow.Author.Needs.{needs}
 use Rattle.instructions.proofs.msr.msr_offset.Statement.{statement}
 use Rattle.instructions.proofs.msr.msr_offset.Tie as tie
 
-mul-result : tie.Need-mul-result
-mul-result c = search needs
-
-cast-result : tie.Need-cast-result
-cast-result c = search needs
-
 returns : tie.Need-returns
 returns c = refl
 
 pub msr-offset-spec : {M : Type 1} → statement M
-msr-offset-spec = tie.close (tie.spec mul-result cast-result returns)
+msr-offset-spec = tie.close (tie.spec (λ c. search needs) (λ c. search needs) returns)

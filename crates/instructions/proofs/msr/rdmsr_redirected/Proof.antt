@@ -2,16 +2,10 @@
 use Rattle.instructions.proofs.msr.rdmsr_redirected.Statement.{statement}
 use Rattle.instructions.proofs.msr.rdmsr_redirected.Tie as tie
 
-is-on-requires : tie.Need-is-on-requires
-is-on-requires c κs = tt
-
-is-on-requires-2 : tie.Need-is-on-requires-2
-is-on-requires-2 c κs = tt
-
 returns : tie.Need-returns
 returns c = simp (← (c .before .is-on .ensures), ← (c .is-on2 .ensures))
 
 pub rdmsr-redirected-spec : {M : Type 1} → statement M
 rdmsr-redirected-spec =
     tie.close
-    (tie.spec is-on-requires is-on-requires-2 returns)
+    (tie.spec (λ c κs. tt) (λ c κs. tt) returns)

@@ -1,6 +1,6 @@
 -- `instructions::msr::wrmsr_following` meets its contract: code and definition take the same cases. Assumes nothing.
 use borrow.Author.Tests.{eq-eqb, le-ltb, lt-ltb, ne-eqb}
-use Rattle.instructions.specs.Cr8Msr.{wrmsrFollowing}
+use Rattle.instructions.specs.Instructions.{wrmsrFollowing}
 use Rattle.instructions.proofs.msr.wrmsr_following.Statement.{statement}
 use Rattle.instructions.proofs.msr.wrmsr_following.Tie as tie
 

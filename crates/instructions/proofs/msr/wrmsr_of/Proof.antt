@@ -1,24 +1,15 @@
 -- `instructions::msr::wrmsr_of` meets its contract: code and definition take the same cases. Assumes nothing.
-use Rattle.instructions.specs.Cr8Msr.{wrmsr}
+use Rattle.instructions.specs.Instructions.{wrmsr}
 use Rattle.instructions.proofs.msr.wrmsr_of.Statement.{statement}
 use Rattle.instructions.proofs.msr.wrmsr_of.Tie as tie
-
-wrmsr-handled-requires : tie.Need-wrmsr-handled-requires
-wrmsr-handled-requires c κs = tt
 
 returns : tie.Need-returns
 unfolding wrmsr
 returns c = simp (← (c .before .wrmsr-handled .ensures), c .if1 .taken)
 
-wrmsr-faults-requires : tie.Need-wrmsr-faults-requires
-wrmsr-faults-requires c κs = tt
-
 returns-2 : tie.Need-returns-2
 unfolding wrmsr
 returns-2 c = simp (← (c .before .before .before .wrmsr-handled .ensures), c .before .before .if1 .left, ← (c .before .wrmsr-faults .ensures), c .if2 .taken)
-
-wrmsr-following-requires : tie.Need-wrmsr-following-requires
-wrmsr-following-requires c κs = tt
 
 returns-3 : tie.Need-returns-3
 unfolding wrmsr
@@ -28,9 +19,9 @@ pub wrmsr-of-spec : {M : Type 1} → statement M
 wrmsr-of-spec =
     tie.close
     (tie.spec
-    wrmsr-handled-requires
+    (λ c κs. tt)
     returns
-    wrmsr-faults-requires
+    (λ c κs. tt)
     returns-2
-    wrmsr-following-requires
+    (λ c κs. tt)
     returns-3)

@@ -1,24 +1,12 @@
 -- `model::boundary::boundary_at` meets its contract: code and definition take the same cases. Assumes nothing.
-use Rattle.runs.specs.Boundary.{boundaryAt}
+use Rattle.meaning.specs.Boundary.{boundaryAt}
 use borrow.Author.Needs.{needs}
 use Rattle.model.proofs.boundary.boundary_at.Statement.{statement}
 use Rattle.model.proofs.boundary.boundary_at.Tie as tie
 
-is-on-requires : tie.Need-is-on-requires
-is-on-requires c κs = tt
-
-exit-requires : tie.Need-exit-requires
-exit-requires c κs = tt
-
 returns : tie.Need-returns
 unfolding boundaryAt
 returns c = simp (← (c .before .before .is-on .ensures), c .before .if1 .taken) (c .exit .ensures _)
-
-delivery-requires : tie.Need-delivery-requires
-delivery-requires c κs = tt
-
-same-length : tie.Need-same-length
-same-length c = search needs
 
 returns-2 : tie.Need-returns-2
 unfolding boundaryAt
@@ -28,9 +16,6 @@ returns-2 c =
     let at-if1 = at-if2 .before .before in
     simp (← (at-if1 .before .is-on .ensures), at-if1 .if1 .left, at-if2 .if2 .taken) (at-delivery .delivery .ensures)
 
-quiet-requires : tie.Need-quiet-requires
-quiet-requires c κs = tt
-
 returns-3 : tie.Need-returns-3
 unfolding boundaryAt
 returns-3 c = simp (← (c .before .before .before .before .is-on .ensures), c .before .before .before .if1 .left, c .before .if2 .left) (c .quiet .ensures _)
@@ -39,11 +24,11 @@ pub boundary-at-spec : {M : Type 1} → statement M
 boundary-at-spec =
     tie.close
     (tie.spec
-    is-on-requires
-    exit-requires
+    (λ c κs. tt)
+    (λ c κs. tt)
     returns
-    delivery-requires
-    same-length
+    (λ c κs. tt)
+    (λ c. search needs)
     returns-2
-    quiet-requires
+    (λ c κs. tt)
     returns-3)

@@ -1,17 +1,11 @@
 -- `model::procedures::evaluated_quiet` meets its contract: code and definition take the same cases. Assumes nothing.
-use Rattle.runs.specs.Procedures.{evaluatedQuiet}
+use Rattle.meaning.specs.Procedures.{evaluatedQuiet}
 use Rattle.model.proofs.procedures.evaluated_quiet.Statement.{statement}
 use Rattle.model.proofs.procedures.evaluated_quiet.Tie as tie
-
-evaluation-requires : tie.Need-evaluation-requires
-evaluation-requires c κs = tt
-
-quiet-requires : tie.Need-quiet-requires
-quiet-requires c κs = tt
 
 returns : tie.Need-returns
 unfolding evaluatedQuiet
 returns c = simp (← (c .before .evaluation .ensures)) (c .quiet .ensures _)
 
 pub evaluated-quiet-spec : {M : Type 1} → statement M
-evaluated-quiet-spec = tie.close (tie.spec evaluation-requires quiet-requires returns)
+evaluated-quiet-spec = tie.close (tie.spec (λ c κs. tt) (λ c κs. tt) returns)

@@ -5,38 +5,17 @@ use borrow.Author.Needs.{needs}
 use Rattle.page.proofs.bytes.read_at.Statement.{statement}
 use Rattle.page.proofs.bytes.read_at.Tie as tie
 
-byte-at-requires : tie.Need-byte-at-requires
-byte-at-requires c κs = tt
-
-cast-result : tie.Need-cast-result
-cast-result c = search needs
-
 returns : tie.Need-returns
 unfolding readAt
 returns c = simp (eq-eqb _ _ (c .before .if1 .taken), ← (c .byte-at .ensures))
-
-half-at-requires : tie.Need-half-at-requires
-half-at-requires c κs = tt
-
-cast-result-2 : tie.Need-cast-result-2
-cast-result-2 c = search needs
 
 returns-2 : tie.Need-returns-2
 unfolding readAt
 returns-2 c = simp (ne-eqb _ _ (c .before .before .if1 .left), eq-eqb _ _ (c .before .if2 .taken), ← (c .half-at .ensures))
 
-word-at-requires : tie.Need-word-at-requires
-word-at-requires c κs = tt
-
-cast-result-3 : tie.Need-cast-result-3
-cast-result-3 c = search needs
-
 returns-3 : tie.Need-returns-3
 unfolding readAt
 returns-3 c = simp (ne-eqb _ _ (c .before .before .before .if1 .left), ne-eqb _ _ (c .before .before .if2 .left), eq-eqb _ _ (c .before .if3 .taken), ← (c .word-at .ensures))
-
-long-at-requires : tie.Need-long-at-requires
-long-at-requires c κs = tt
 
 returns-4 : tie.Need-returns-4
 unfolding readAt
@@ -46,14 +25,14 @@ pub read-at-spec : {M : Type 1} → statement M
 read-at-spec =
     tie.close
     (tie.spec
-    byte-at-requires
-    cast-result
+    (λ c κs. tt)
+    (λ c. search needs)
     returns
-    half-at-requires
-    cast-result-2
+    (λ c κs. tt)
+    (λ c. search needs)
     returns-2
-    word-at-requires
-    cast-result-3
+    (λ c κs. tt)
+    (λ c. search needs)
     returns-3
-    long-at-requires
+    (λ c κs. tt)
     returns-4)

@@ -2,11 +2,8 @@
 use Rattle.processor.proofs.controls.fresh_record.Statement.{statement}
 use Rattle.processor.proofs.controls.fresh_record.Tie as tie
 
-no-controls-requires : tie.Need-no-controls-requires
-no-controls-requires c κs = tt
-
 returns : tie.Need-returns
 returns c = simp (← (c .no-controls .ensures))
 
 pub fresh-record-spec : {M : Type 1} → statement M
-fresh-record-spec = tie.close (tie.spec no-controls-requires returns)
+fresh-record-spec = tie.close (tie.spec (λ c κs. tt) returns)

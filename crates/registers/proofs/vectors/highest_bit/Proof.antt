@@ -17,20 +17,8 @@ abbrev μ-loop : tie.MeasureT-loop
 loop-holds : tie.Need-loop-holds Inv-loop μ-loop
 loop-holds c = (lit≤ tt, refl)
 
-sub-if1 : tie.Need-sub-if1 Inv-loop μ-loop
-sub-if1 c = omega arith
-
-shr-if1 : tie.Need-shr-if1 Inv-loop μ-loop
-shr-if1 c = omega arith
-
 returns : tie.Need-returns Inv-loop μ-loop
 returns c = bit-found _ (c .before .before .loop .n) (c .before .loop-test .taken) (c .before .before .loop .inv .1) (c .if1 .taken)
-
-sub-n : tie.Need-sub-n Inv-loop μ-loop
-sub-n c = omega arith
-
-loop-less : tie.Need-loop-less Inv-loop μ-loop
-loop-less c = omega arith
 
 loop-again : tie.Need-loop-again Inv-loop μ-loop
 loop-again c = (
@@ -48,10 +36,10 @@ highest-bit-spec =
     Inv-loop
     μ-loop
     loop-holds
-    sub-if1
-    shr-if1
+    (λ c. omega arith)
+    (λ c. omega arith)
     returns
-    sub-n
-    loop-less
+    (λ c. omega arith)
+    (λ c. omega arith)
     loop-again
     returns-2)

@@ -6,9 +6,6 @@ use borrow.Author.Needs.{needs}
 use Rattle.registers.proofs.vectors.put_bit.Statement.{statement}
 use Rattle.registers.proofs.vectors.put_bit.Tie as tie
 
-shl-mask : tie.Need-shl-mask
-shl-mask c = search needs
-
 returns : tie.Need-returns
 returns c = rw (c .if1 .taken) (mask-on (c .before .args .byte) (c .before .args .vector % 8) (c .before .fits .byte .fits) (omega arith))
 
@@ -16,4 +13,4 @@ returns-2 : tie.Need-returns-2
 returns-2 c = rw (c .if1 .left) (mask-off (c .before .args .byte) (c .before .args .vector % 8) (c .before .fits .byte .fits) (omega arith))
 
 pub put-bit-spec : {M : Type 1} → statement M
-put-bit-spec = tie.close (tie.spec shl-mask returns returns-2)
+put-bit-spec = tie.close (tie.spec (λ c. search needs) returns returns-2)

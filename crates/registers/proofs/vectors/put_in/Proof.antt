@@ -7,21 +7,6 @@ use borrow.Author.Needs.{needs}
 use Rattle.registers.proofs.vectors.put_in.Statement.{statement}
 use Rattle.registers.proofs.vectors.put_in.Tie as tie
 
-vector-byte-requires : tie.Need-vector-byte-requires
-vector-byte-requires c κs = tt
-
-slice-read-put-bit : tie.Need-slice-read-put-bit
-slice-read-put-bit c = search needs
-
-put-bit-requires : tie.Need-put-bit-requires
-put-bit-requires c κs = tt
-
-slice-write-register : tie.Need-slice-write-register
-slice-write-register c = search needs
-
-same-length : tie.Need-same-length
-same-length c = search needs
-
 returns : tie.Need-returns
 unfolding putVector
 returns c = simp (c .put-bit .ensures, c .before .before .before .vector-byte .ensures, zero-add)
@@ -34,10 +19,10 @@ pub put-in-spec : {M : Type 1} → statement M
 put-in-spec =
     tie.close
     (tie.spec
-    vector-byte-requires
-    slice-read-put-bit
-    put-bit-requires
-    slice-write-register
-    same-length
+    (λ c κs. tt)
+    (λ c. search needs)
+    (λ c κs. tt)
+    (λ c. search needs)
+    (λ c. search needs)
     returns
     returns-2)

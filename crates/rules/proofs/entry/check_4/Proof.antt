@@ -2,14 +2,8 @@
 use Rattle.rules.proofs.entry.check_4.Statement.{statement}
 use Rattle.rules.proofs.entry.check_4.Tie as tie
 
-is-on-requires : tie.Need-is-on-requires
-is-on-requires c κs = tt
-
-is-on-requires-2 : tie.Need-is-on-requires-2
-is-on-requires-2 c κs = tt
-
 returns : tie.Need-returns
 returns c = simp (← (c .before .before .is-on .ensures), ← (c .before .is-on2 .ensures))
 
 pub check-4-spec : {M : Type 1} → statement M
-check-4-spec = tie.close (tie.spec is-on-requires is-on-requires-2 returns)
+check-4-spec = tie.close (tie.spec (λ c κs. tt) (λ c κs. tt) returns)

@@ -1,31 +1,19 @@
 -- `rules::entry::failing_check` meets its contract: code and definition take the same cases. Assumes nothing.
-use Rattle.rules.specs.Entry.{failingCheck}
+use Rattle.rules.specs.EntryChecks.{failingCheck}
 use Rattle.rules.proofs.entry.failing_check.Statement.{statement}
 use Rattle.rules.proofs.entry.failing_check.Tie as tie
-
-check-1-requires : tie.Need-check-1-requires
-check-1-requires c κs = tt
 
 returns : tie.Need-returns
 unfolding failingCheck
 returns c = simp (← (c .before .check-1 .ensures), c .if1 .taken)
 
-check-2-requires : tie.Need-check-2-requires
-check-2-requires c κs = tt
-
 returns-2 : tie.Need-returns-2
 unfolding failingCheck
 returns-2 c = simp (← (c .before .before .before .check-1 .ensures), c .before .before .if1 .left, ← (c .before .check-2 .ensures), c .if2 .taken)
 
-check-3-requires : tie.Need-check-3-requires
-check-3-requires c κs = tt
-
 returns-3 : tie.Need-returns-3
 unfolding failingCheck
 returns-3 c = simp (← (c .before .before .before .before .before .check-1 .ensures), c .before .before .before .before .if1 .left, ← (c .before .before .before .check-2 .ensures), c .before .before .if2 .left, ← (c .before .check-3 .ensures), c .if3 .taken)
-
-check-4-requires : tie.Need-check-4-requires
-check-4-requires c κs = tt
 
 returns-4 : tie.Need-returns-4
 unfolding failingCheck
@@ -47,12 +35,12 @@ pub failing-check-spec : {M : Type 1} → statement M
 failing-check-spec =
     tie.close
     (tie.spec
-    check-1-requires
+    (λ c κs. tt)
     returns
-    check-2-requires
+    (λ c κs. tt)
     returns-2
-    check-3-requires
+    (λ c κs. tt)
     returns-3
-    check-4-requires
+    (λ c κs. tt)
     returns-4
     returns-5)

@@ -4,11 +4,8 @@ use borrow.Author.Needs.{needs}
 use Rattle.rules.proofs.procedures.below_threshold.Statement.{statement}
 use Rattle.rules.proofs.procedures.below_threshold.Tie as tie
 
-cast-result : tie.Need-cast-result
-cast-result c = search needs
-
 returns : tie.Need-returns
 returns c = refl
 
 pub below-threshold-spec : {M : Type 1} → statement M
-below-threshold-spec = tie.close (tie.spec cast-result returns)
+below-threshold-spec = tie.close (tie.spec (λ c. search needs) returns)

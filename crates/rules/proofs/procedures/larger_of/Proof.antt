@@ -1,6 +1,6 @@
 -- `rules::procedures::larger_of` meets its contract: code and definition take the same cases. Assumes nothing.
 use borrow.Author.Tests.{le-ltb, lt-ltb}
-use Rattle.rules.specs.Procedures.{larger}
+use Rattle.processor.specs.Logic.{larger}
 use Rattle.rules.proofs.procedures.larger_of.Statement.{statement}
 use Rattle.rules.proofs.procedures.larger_of.Tie as tie
 

@@ -4,11 +4,8 @@ use native.Mathlib.Omega.{arith}
 use Rattle.rules.proofs.procedures.low_cleared.Statement.{statement}
 use Rattle.rules.proofs.procedures.low_cleared.Tie as tie
 
-mul-result : tie.Need-mul-result
-mul-result c = omega arith
-
 returns : tie.Need-returns
 returns c = refl
 
 pub low-cleared-spec : {M : Type 1} → statement M
-low-cleared-spec = tie.close (tie.spec mul-result returns)
+low-cleared-spec = tie.close (tie.spec (λ c. omega arith) returns)

@@ -4,14 +4,8 @@ use borrow.Author.Needs.{needs}
 use Rattle.processor.proofs.controls.Controls.is_on.Statement.{statement}
 use Rattle.processor.proofs.controls.Controls.is_on.Tie as tie
 
-cast-result : tie.Need-cast-result
-cast-result c = search needs
-
-shr-result : tie.Need-shr-result
-shr-result c = search needs
-
 returns : tie.Need-returns
 returns c = refl
 
 pub is-on-spec : {M : Type 1} → statement M
-is-on-spec = tie.close (tie.spec cast-result shr-result returns)
+is-on-spec = tie.close (tie.spec (λ c. search needs) (λ c. search needs) returns)

@@ -1,0 +1,25 @@
+-- Every bench case holds of the definitions: one claim, computed. Assumes nothing.
+use lib.Dec.{T}
+use Rattle.processor.specs.Controls.{eoiExitWord}
+use Rattle.events.specs.Events.{valueInBounds, eventInBounds, rootOnly, allowed}
+use Rattle.rules.specs.EntryChecks.{failingCheck}
+use Rattle.accesses.specs.Accesses.{openOffset, memoryAccess, readQualification, writeFollowing}
+use Rattle.instructions.specs.Instructions.{cr8Access, wrmsrFollowing, wrmsr}
+use Rattle.processor.specs.Logic.{larger}
+use Rattle.rules.specs.Priorities.{ppr}
+use Rattle.page.specs.Page.{halfAt, wordAt, longAt, readAt}
+use Rattle.stores.specs.Stores.{setHalf, setWord, setLong, storeAt}
+use Rattle.registers.specs.Vectors.{isSet, putVector, highestBelow, highest}
+use Rattle.meaning.specs.Procedures.{pprVirtualization, evaluation, evaluatedQuiet, tprVirtualization, retiredPage, retiredRecord, eoiEnd, eoiVirtualization, requestedPage, requestedRecord, selfIpiVirtualization}
+use Rattle.meaning.specs.Entry.{entered, entry, request}
+use Rattle.meaning.specs.Memory.{readBy, memoryRead, clearThree, followBy, written, writeBy, memoryWrite}
+use Rattle.meaning.specs.Cr8Msr.{toCr8By, movToCr8, fromCr8By, movFromCr8, readMsr, writeMsrBy, writeMsr}
+use Rattle.meaning.specs.Boundary.{deliveredPage, deliveredRecord, delivery, boundaryAt, boundary}
+use Rattle.meaning.specs.Leave.{left}
+use Rattle.meaning.specs.Refusals.{refusalOf}
+use Rattle.meaning.specs.Step.{eventOut, carriedOut, stepBy, step}
+use Rattle.meaning.specs.Bench.{rowHolds, rowsHold, benchRows}
+
+pub every-row-holds : T (rowsHold benchRows)
+unfolding eoiExitWord valueInBounds eventInBounds rootOnly allowed failingCheck openOffset memoryAccess readQualification writeFollowing cr8Access wrmsrFollowing wrmsr ppr larger halfAt wordAt longAt readAt setHalf setWord setLong storeAt isSet putVector highestBelow highest pprVirtualization evaluation evaluatedQuiet tprVirtualization retiredPage retiredRecord eoiEnd eoiVirtualization requestedPage requestedRecord selfIpiVirtualization entered entry request readBy memoryRead clearThree followBy written writeBy memoryWrite toCr8By movToCr8 fromCr8By movFromCr8 readMsr writeMsrBy writeMsr deliveredPage deliveredRecord delivery boundaryAt boundary left refusalOf eventOut carriedOut stepBy step rowHolds
+every-row-holds = tt

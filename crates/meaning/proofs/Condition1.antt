@@ -1,0 +1,115 @@
+-- Condition 1: what is refused, and what each other answer leaves, read off the ordered list of refusals and the ways to end. Assumes
+-- nothing.
+use Prim.Native.Nat.{ℕ}
+use mathlib.Core.Path.{_≡_, refl}
+use mathlib.Core.Bool.{Bool, true, false, false≢true}
+use mathlib.Core.List.{List}
+use lib.Dec.{eqb, ltb}
+use Rattle.processor.specs.Controls.{eoiExit}
+use Rattle.processor.specs.declared.controls.Record.{Record}
+use Rattle.events.specs.Answers.{numbers}
+use Rattle.events.specs.declared.answer.Numbers.{Numbers}
+use Rattle.events.specs.declared.answer.Refusal.the-variants.{None, By}
+use Rattle.meaning.specs.Input.{Input}
+use Rattle.meaning.specs.After.{After, quiet}
+use Rattle.meaning.specs.Procedures.{evaluatedQuiet, retiredRecord, eoiEnd, eoiVirtualization, selfIpiVirtualization}
+use Rattle.meaning.specs.Entry.{request}
+use Rattle.meaning.specs.Boundary.{delivery}
+use Rattle.meaning.specs.Leave.{left}
+use Rattle.meaning.specs.Refusals.{pageFits, fieldsFit, modeFits, checkOf, refusalOf}
+use Rattle.meaning.specs.Step.{stepBy, step}
+use Rattle.meaning.specs.Condition1.{Refused, changesNothing, CarriedOut, Answered}
+use Rattle.meaning.proofs.Refused.{refusal-1, refusal-2, refusal-3, refusal-4, no-refusal}
+use Rattle.meaning.proofs.Endings.{Ends, reads, passes, faults, exits, stores, evaluates, enters, retiring, sending, requesting, delivering, leaving, ends}
+
+module _ (p : List ℕ) (r : Record) where
+  -- redirected, passthrough, fault
+  unchanged : (n : Numbers) → eqb (n .answer) 0 ≡ false → eqb (n .answer) 4 ≡ false → CarriedOut p r (record { answer = n; state = r; page = p })
+  unchanged n e f = record {
+    answer = e;
+    page = λ t. refl;
+    state = λ t. refl;
+    root = λ t. absurd (false≢true (simp f at t));
+    unrecognised = λ t. absurd (false≢true (simp f at t));
+  }
+
+  -- a VM exit
+  exited : (reason qualification : ℕ) (q : List ℕ) (s : Record) → s .guest ≡ false → s .recognised ≡ false → CarriedOut p r (record { answer = numbers 4 reason qualification; state = s; page = q })
+  exited reason qualification q s g u = record {
+    answer = refl;
+    page = λ t. absurd (false≢true t);
+    state = λ t. absurd (false≢true t);
+    root = λ t. g;
+    unrecognised = λ t. u;
+  }
+
+  -- delivered, quiet
+  done : (n : Numbers) (q : List ℕ) (s : Record) → ltb (n .answer) 4 ≡ false → eqb (n .answer) 0 ≡ false → eqb (n .answer) 4 ≡ false → CarriedOut p r (record { answer = n; state = s; page = q })
+  done n q s c e f = record {
+    answer = e;
+    page = λ t. absurd (false≢true (simp c at t));
+    state = λ t. absurd (false≢true (simp c at t));
+    root = λ t. absurd (false≢true (simp f at t));
+    unrecognised = λ t. absurd (false≢true (simp f at t));
+  }
+
+  calm : (q : List ℕ) (s : Record) → CarriedOut p r (quiet q s)
+  calm q s = done (numbers 6 0 0) q s refl refl refl
+
+  retired : (q : List ℕ) → CarriedOut p r (eoiVirtualization q r)
+  unfolding eoiVirtualization eoiEnd evaluatedQuiet retiredRecord
+  retired q = by (eoiExit (r .controls) (r .svi)) refl
+    where
+      by : (x : Bool) → eoiExit (r .controls) (r .svi) ≡ x → CarriedOut p r (eoiVirtualization q r)
+      by true e = simp e (exited _ _ _ _ refl refl)
+      by false e = simp e (calm _ _)
+
+  -- what each way to end leaves
+  carried-out : {i : Input} {a : After} → Ends p r i a → CarriedOut p r a
+  unfolding evaluatedQuiet selfIpiVirtualization request delivery left
+  carried-out (reads value) = unchanged (numbers 1 value 0) refl refl
+  carried-out passes = unchanged (numbers 2 0 0) refl refl
+  carried-out faults = unchanged (numbers 3 0 0) refl refl
+  carried-out (exits reason qualification s n k m) = exited reason qualification _ _ refl refl
+  carried-out (stores m k) = calm _ _
+  carried-out (evaluates s m t d k n) = calm _ _
+  carried-out (enters c e d) = calm _ _
+  carried-out (retiring m t k) = retired _
+  carried-out (sending v m h t k) = calm _ _
+  carried-out (requesting v m h t) = calm _ _
+  carried-out (delivering m t y) = done (numbers 5 (r .rvi) 0) _ _ refl refl refl
+  carried-out (leaving e) = calm _ _
+
+  module _ (i : Input) where
+    -- the step of a refused input, and of any other
+    refused-step : (number check : ℕ) → refusalOf p r i ≡ By number check → Refused number check p r (step p r i)
+    unfolding step stepBy
+    refused-step number check e = simp e (record { answer = refl; page = refl; state = refl })
+
+    other-step : refusalOf p r i ≡ None → CarriedOut p r (step p r i)
+    unfolding step stepBy
+    other-step e = simp e (carried-out (ends p r i e))
+
+    -- condition 1, of any input
+    pub answered : Answered p r i (step p r i)
+    answered = record {
+      wrongLength = λ l. refused-step 1 0 (refusal-1 p r i l);
+      malformed = λ l f. refused-step 2 0 (refusal-2 p r i l f);
+      wrongMode = λ l f m. refused-step 3 0 (refusal-3 p r i l f m);
+      failedCheck = λ l f m n. refused-step 4 (checkOf i) (refusal-4 p r i l f m n);
+      other = λ l f m n. other-step (no-refusal p r i l f m n);
+    }
+
+    -- refused, redirected, passthrough and fault leave the page and the record
+    pub nothing-changes : changesNothing (step p r i .answer) ≡ true → (step p r i .page ≡ p) × (step p r i .state ≡ r)
+    nothing-changes t = by (pageFits p i) (fieldsFit r i) (modeFits r i) (eqb (checkOf i) 0) refl refl refl refl
+      where
+        both : {number check : ℕ} → Refused number check p r (step p r i) → (step p r i .page ≡ p) × (step p r i .state ≡ r)
+        both x = (x .page, x .state)
+
+        by : (x y z w : Bool) → pageFits p i ≡ x → fieldsFit r i ≡ y → modeFits r i ≡ z → eqb (checkOf i) 0 ≡ w → (step p r i .page ≡ p) × (step p r i .state ≡ r)
+        by false y z w ex ey ez ew = both (answered .wrongLength ex)
+        by true false z w ex ey ez ew = both (answered .malformed ex ey)
+        by true true false w ex ey ez ew = both (answered .wrongMode ex ey ez)
+        by true true true false ex ey ez ew = both (answered .failedCheck ex ey ez ew)
+        by true true true true ex ey ez ew = (answered .other ex ey ez ew .page t, answered .other ex ey ez ew .state t)

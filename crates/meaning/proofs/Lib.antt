@@ -1,0 +1,15 @@
+pub mod Determined
+pub mod Bench
+pub mod Refused
+pub mod Stored
+pub mod Kept
+pub mod Put
+pub mod Raised
+pub mod Endings
+pub mod Condition1
+pub mod Good
+pub mod Laws
+pub mod LeftOut
+pub mod Ladder
+pub mod Invariant
+pub mod Theorems

@@ -1,0 +1,213 @@
+-- Document 01, "Bench cases" K1 to K12, and one of the guest that leaves, as rows of one table: where a row starts, what is done, and
+-- what must come of it.
+use Prim.Native.Nat.{ℕ}
+use mathlib.Core.Bool.{Bool, true, false, _&&_, Bool·beq}
+use mathlib.Core.List.{List, [], _∷_, _++_}
+use lib.Dec.{eqb}
+use Rattle.events.specs.declared.answer.Numbers.{Numbers}
+use Rattle.events.specs.Answers.{numbers}
+use Rattle.processor.specs.declared.controls.Controls.{Controls}
+use Rattle.processor.specs.declared.controls.Record.{Record}
+use Rattle.events.specs.declared.event.Event.{Event}
+use Rattle.events.specs.declared.event.Event.the-variants.{Entry, Request, MemoryRead, MemoryWrite, ToCr8, Boundary}
+use Rattle.processor.specs.Offsets.{vtpr}
+use Rattle.page.specs.Page.{wordAt}
+use Rattle.stores.specs.Stores.{setByte}
+use Rattle.meaning.specs.Input.{Input, given, leaves}
+use Rattle.meaning.specs.Procedures.{pprVirtualization}
+use Rattle.meaning.specs.Run.{Held, zeroPage, start, after, answers}
+
+-- a word of the page: its offset and its value
+pub record Word : Type 0 where
+  pub at : ℕ
+  pub value : ℕ
+
+-- a list of inputs, or PPR virtualization alone
+pub data Deed : Type 0 where
+  inputs : List Input → Deed
+  pprAlone : Deed
+
+-- what a deed leaves: the answers in order, and what is then held
+pub record End : Type 0 where
+  pub answers : List Numbers
+  pub held : Held
+
+abbrev pub done : Held → Deed → End
+done h (inputs is) = record { answers = answers h is; held = after h is }
+done h pprAlone = record { answers = []; held = record { page = pprVirtualization (h .page) (h .state); state = h .state } }
+
+-- a row: the start; the deed; the answers' numbers; mode, RVI, SVI and recognition at the end; words of the page at the end
+pub record Row : Type 0 where
+  pub begin : Held
+  pub deed : Deed
+  pub answers : List Numbers
+  pub guest : Bool
+  pub rvi : ℕ
+  pub svi : ℕ
+  pub recognised : Bool
+  pub words : List Word
+
+abbrev pub sameNumbers : Numbers → Numbers → Bool
+sameNumbers a b = eqb (a .answer) (b .answer) && eqb (a .first) (b .first) && eqb (a .second) (b .second)
+
+abbrev pub sameAnswers : List Numbers → List Numbers → Bool
+sameAnswers [] [] = true
+sameAnswers [] (b ∷ bs) = false
+sameAnswers (a ∷ rest) [] = false
+sameAnswers (a ∷ rest) (b ∷ bs) = sameNumbers a b && sameAnswers rest bs
+
+abbrev pub hasWords : List ℕ → List Word → Bool
+hasWords p [] = true
+hasWords p (w ∷ ws) = eqb (wordAt p (w .at)) (w .value) && hasWords p ws
+
+-- the row holds of the definitions
+abbrev pub endHolds : End → Row → Bool
+endHolds e row =
+    let s = e .held .state in
+    sameAnswers (e .answers) (row .answers) && Bool·beq (s .guest) (row .guest) && eqb (s .rvi) (row .rvi) &&
+    eqb (s .svi) (row .svi) && Bool·beq (s .recognised) (row .recognised) && hasWords (e .held .page) (row .words)
+
+unfoldable pub rowHolds : Row → Bool
+rowHolds row = endHolds (done (row .begin) (row .deed)) row
+
+abbrev pub rowsHold : List Row → Bool
+rowsHold [] = true
+rowsHold (row ∷ rows) = rowHolds row && rowsHold rows
+
+abbrev word : ℕ → ℕ → Word
+word at value = record { at = at; value = value }
+
+abbrev pub controls : ℕ → ℕ → Controls
+controls flags threshold =
+    record { flags = flags; threshold = threshold; «eoi_exit_0» = 0; «eoi_exit_1» = 0; «eoi_exit_2» = 0; «eoi_exit_3» = 0 }
+
+-- "V" is controls 0, 4, 5 on; "M" adds control 1; "R" adds control 3 to M.
+abbrev pub controlsV : Controls
+controlsV = controls 0x31 0
+
+abbrev pub controlsM : Controls
+controlsM = controls 0x33 0
+
+abbrev pub controlsR : Controls
+controlsR = controls 0x3b 0
+
+-- in guest mode with the values given and zero elsewhere
+abbrev guestWith : Controls → ℕ → Record
+guestWith c svi = record { guest = true; rvi = 0; svi = svi; recognised = false; controls = c }
+
+-- a page that is zero but for VTPR
+abbrev vtprPage : ℕ → List ℕ
+vtprPage value = setByte zeroPage vtpr value
+
+abbrev quiet : Numbers
+quiet = numbers 6 0 0
+
+abbrev delivered : ℕ → Numbers
+delivered vector = numbers 5 vector 0
+
+abbrev exit : ℕ → ℕ → Numbers
+exit reason qualification = numbers 4 reason qualification
+
+abbrev pub boundaryOpen : Event
+boundaryOpen = Boundary true false false 0
+
+-- events as inputs
+abbrev pub each : List Event → List Input
+each [] = []
+each (e ∷ es) = given e ∷ each es
+
+-- K1's events under some controls with more after them, and their answers
+abbrev afterK1 : Controls → List Event → List Input
+afterK1 c es = each (Request 0x60 ∷ Entry c ∷ boundaryOpen ∷ es)
+
+abbrev answersK1 : List Numbers
+answersK1 = quiet ∷ quiet ∷ delivered 0x60 ∷ []
+
+abbrev write300 : ℕ → Event
+write300 value = MemoryWrite 0x300 4 false false value
+
+-- a row that starts fresh
+abbrev fromFresh : List Input → List Numbers → Bool → ℕ → ℕ → Bool → List Word → Row
+fromFresh is answers guest rvi svi recognised words =
+    record { begin = start; deed = inputs is; answers = answers; guest = guest; rvi = rvi; svi = svi; recognised = recognised; words = words }
+
+-- a row of one event in guest mode
+abbrev inGuest : Controls → List ℕ → Event → Numbers → Bool → List Word → Row
+inGuest c p e a guest words =
+    record { begin = record { page = p; state = guestWith c 0 }; deed = inputs (given e ∷ []); answers = a ∷ []; guest = guest; rvi = 0; svi = 0; recognised = false; words = words }
+
+abbrev pub k1 : Row
+k1 = fromFresh (afterK1 controlsV []) answersK1 true 0 0x60 false (word 0x130 1 ∷ word 0x230 0 ∷ word 0x0a0 0x60 ∷ [])
+
+abbrev pub k2 : Row
+k2 =
+    fromFresh (afterK1 controlsM (write300 0x0004_0071 ∷ boundaryOpen ∷ [])) (answersK1 ++ (quiet ∷ delivered 0x71 ∷ []))
+    true 0 0x71 false (word 0x130 0x0002_0001 ∷ word 0x0a0 0x70 ∷ [])
+
+abbrev pub k3 : Row
+k3 =
+    fromFresh (afterK1 controlsM (write300 0x0004_0071 ∷ boundaryOpen ∷ MemoryWrite 0x0b0 4 false false 0 ∷ []))
+    (answersK1 ++ (quiet ∷ delivered 0x71 ∷ quiet ∷ [])) true 0 0x60 false (word 0x130 1 ∷ word 0x0a0 0x60 ∷ [])
+
+-- one write to VICR_LO after K1 under M
+abbrev afterK1Write : ℕ → Numbers → Bool → ℕ → Bool → List Word → Row
+afterK1Write value a guest rvi recognised words =
+    fromFresh (afterK1 controlsM (write300 value ∷ [])) (answersK1 ++ (a ∷ [])) guest rvi 0x60 recognised words
+
+abbrev pub k4 : Row
+k4 = afterK1Write 0x0004_0065 quiet true 0x65 false []
+
+-- VIRR's eight words, all 0
+abbrev noRequest : List Word
+noRequest =
+    word 0x200 0 ∷ word 0x210 0 ∷ word 0x220 0 ∷ word 0x230 0 ∷ word 0x240 0 ∷ word 0x250 0 ∷ word 0x260 0 ∷ word 0x270 0 ∷ []
+
+abbrev pub k5 : Row
+k5 = afterK1Write 0x0004_2071 (exit 56 0x300) false 0 false (word 0x300 0x0004_2071 ∷ noRequest)
+
+abbrev pub k6 : List Row
+k6 = afterK1Write 0x0004_0871 quiet true 0x71 true (word 0x230 0x0002_0000 ∷ []) ∷
+    afterK1Write 0x0004_4071 quiet true 0x71 true (word 0x230 0x0002_0000 ∷ []) ∷ []
+
+abbrev pub k7 : List Row
+k7 = afterK1Write 0x0004_000f (exit 56 0x300) false 0 false [] ∷ afterK1Write 0x0004_0010 quiet true 0x10 false [] ∷ []
+
+-- PPR virtualization alone: VTPR and SVI, and the VPPR that comes of them
+abbrev pprRow : ℕ → ℕ → ℕ → Row
+pprRow vtprValue svi vpprValue =
+    record { begin = record { page = vtprPage vtprValue; state = guestWith (controls 0 0) svi }; deed = pprAlone; answers = []; guest = true; rvi = 0; svi = svi; recognised = false; words = word 0x0a0 vpprValue ∷ [] }
+
+abbrev pub k8 : List Row
+k8 = pprRow 0x6f 0x60 0x6f ∷ pprRow 0x5f 0x63 0x60 ∷ []
+
+abbrev shadowOnly : Controls
+shadowOnly = controls 0x01 5
+
+abbrev pub k9 : List Row
+k9 =
+    inGuest shadowOnly (vtprPage 0x50) (ToCr8 4 0) (exit 43 0) false (word 0x080 0x40 ∷ []) ∷
+    inGuest shadowOnly (vtprPage 0x50) (ToCr8 5 0) quiet true (word 0x080 0x50 ∷ []) ∷ []
+
+-- the byte read is VTPR's byte 3, which isn't 0
+abbrev pub k10 : List Row
+k10 =
+    inGuest controlsR (setByte zeroPage 0x083 0x5c) (MemoryRead 0x083 1 false false) (numbers 1 0x5c 0) true [] ∷
+    inGuest controlsM (setByte zeroPage 0x083 0x5c) (MemoryRead 0x083 1 false false) (exit 44 0x083) false [] ∷ []
+
+abbrev pub k11 : List Row
+k11 =
+    inGuest controlsR zeroPage (MemoryWrite 0x082 2 false false 0xabcd) (exit 56 0x082) false (word 0x080 0xabcd_0000 ∷ []) ∷
+    inGuest controlsR zeroPage (MemoryWrite 0x0a0 4 false false 1) (exit 44 0x10a0) false (word 0x0a0 0 ∷ []) ∷ []
+
+abbrev pub k12 : Row
+k12 = fromFresh (each (Request 0 ∷ Entry controlsV ∷ [])) (quiet ∷ quiet ∷ []) true 0 0 false (word 0x200 1 ∷ [])
+
+-- the guest leaves with 71H recognised, and in root mode it cannot leave again
+abbrev pub leaving : Row
+leaving =
+    fromFresh (afterK1 controlsM (write300 0x0004_0071 ∷ []) ++ (leaves ∷ leaves ∷ [])) (answersK1 ++ (quiet ∷ quiet ∷ numbers 0 3 0 ∷ []))
+    false 0x71 0x60 false (word 0x130 1 ∷ word 0x230 0x0002_0000 ∷ word 0x0a0 0x60 ∷ [])
+
+-- K1 to K12, and the guest that leaves
+abbrev pub benchRows : List Row
+benchRows = (k1 ∷ k2 ∷ k3 ∷ k4 ∷ k5 ∷ []) ++ k6 ++ k7 ++ k8 ++ k9 ++ k10 ++ k11 ++ (k12 ∷ leaving ∷ [])

@@ -1,0 +1,57 @@
+-- Document 01, "What comes back": the refusals, in the order in which they are tested. An input gets the first that applies, with its
+-- check, or none.
+use Prim.Native.Nat.{ℕ}
+use mathlib.Core.Bool.{Bool, true, not}
+use mathlib.Core.List.{List}
+use lib.Dec.{eqb}
+use lib.ListN.{length}
+use Rattle.processor.specs.Logic.{if_then_else_}
+use Rattle.processor.specs.Controls.{flagsInBounds}
+use Rattle.processor.specs.declared.controls.Record.{Record}
+use Rattle.events.specs.Events.{inBounds, allowed}
+use Rattle.events.specs.declared.answer.Refusal.{Refusal}
+use Rattle.events.specs.declared.answer.Refusal.the-variants.{None, By}
+use Rattle.events.specs.declared.event.Event.{Event}
+use Rattle.events.specs.declared.event.Event.the-variants.{Entry, Request, MemoryRead, MemoryWrite, ToCr8, FromCr8, Rdmsr, Wrmsr, Boundary}
+use Rattle.rules.specs.EntryChecks.{failingCheck}
+use Rattle.meaning.specs.Input.{Input, given, leaves}
+
+-- 1: the page slice isn't 4,096 bytes. A guest that leaves takes no page.
+abbrev pub pageFits : List ℕ → Input → Bool
+pageFits p (given e) = eqb (length p) 4096
+pageFits p leaves = true
+
+-- 2: a field outside the bounds, of the record or of the event
+abbrev pub fieldsFit : Record → Input → Bool
+fieldsFit r (given e) = inBounds r e
+fieldsFit r leaves = flagsInBounds (r .controls)
+
+-- 3: not allowed in this mode. A guest alone can leave.
+abbrev pub modeFits : Record → Input → Bool
+modeFits r (given e) = allowed r e
+modeFits r leaves = r .guest
+
+-- 4: the first entry check that fails, 0 where none does or the input is no entry
+abbrev pub eventCheck : Event → ℕ
+eventCheck (Entry controls) = failingCheck controls
+eventCheck (Request vector) = 0
+eventCheck (MemoryRead offset size fetch already) = 0
+eventCheck (MemoryWrite offset size fetch already value) = 0
+eventCheck (ToCr8 value register) = 0
+eventCheck (FromCr8 register) = 0
+eventCheck (Rdmsr index) = 0
+eventCheck (Wrmsr index value) = 0
+eventCheck (Boundary interrupts sti movSs activity) = 0
+
+abbrev pub checkOf : Input → ℕ
+checkOf (given e) = eventCheck e
+checkOf leaves = 0
+
+-- Tested in the order 1, 2, 3, 4, and given in no other case.
+unfoldable pub refusalOf : List ℕ → Record → Input → Refusal
+refusalOf p r i =
+    if not (pageFits p i) then By 1 0
+    else if not (fieldsFit r i) then By 2 0
+    else if not (modeFits r i) then By 3 0
+    else if not (eqb (checkOf i) 0) then By 4 (checkOf i)
+    else None

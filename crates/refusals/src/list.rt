@@ -1,0 +1,83 @@
+// The ordered list of refusals, of an event and of a guest that leaves.
+ghost use mathlib.Core.Path.{_≡_};
+ghost use mathlib.Core.List.{List};
+ghost use Prim.Native.Nat.{ℕ};
+ghost use Rattle.meaning.specs.Input.{given, leaves};
+ghost use Rattle.meaning.specs.Refusals.{eventCheck, refusalOf};
+use events::answer::Refusal;
+use events::event::Event;
+use events::event::in_bounds;
+use events::event::is_allowed;
+use processor::controls::Record;
+use rules::entry::failing_check;
+
+// The refusals by their numbers.
+const PAGE_LENGTH: u8 = 1;
+
+const BOUNDS: u8 = 2;
+
+const MODE: u8 = 3;
+
+const ENTRY_CHECK: u8 = 4;
+
+// The first entry check that fails, 0 where none does or the event is no entry.
+fn check_of(event: Event) -> u8
+    ensures { λ r. ⌜ r ≡ eventCheck event ⌝ }
+{
+    let Event::Entry(controls) = event else {
+        return 0;
+    };
+    failing_check(controls)
+}
+
+// Which refusal an event gets on a page and a record, with its check, or none.
+pub fn refusal_of(page: &[u8], record: Record, event: Event) -> Refusal
+    ensures { λ r. ⌜ r ≡ refusalOf (now (page .entry)) «record» (given event) ⌝ }
+{
+    if page.len() != 4096 {
+        return Refusal::By {
+            number: PAGE_LENGTH,
+            check: 0,
+        };
+    }
+    if !in_bounds(record, event) {
+        return Refusal::By {
+            number: BOUNDS,
+            check: 0,
+        };
+    }
+    if !is_allowed(record, event) {
+        return Refusal::By {
+            number: MODE,
+            check: 0,
+        };
+    }
+    let check = check_of(event);
+    if check != 0 {
+        return Refusal::By {
+            number: ENTRY_CHECK,
+            check,
+        };
+    }
+    Refusal::None
+}
+
+// Which refusal a guest that leaves gets on a record, on whatever page, or none.
+pub fn leave_refusal_of(record: Record) -> Refusal
+    ensures { λ r. ⌜ ((p : List ℕ) → r ≡ refusalOf p «record» leaves) ⌝ }
+{
+    let controls = record.controls;
+    if !controls.flags_in_bounds() {
+        return Refusal::By {
+            number: BOUNDS,
+            check: 0,
+        };
+    }
+    if !record.guest {
+        return Refusal::By {
+            number: MODE,
+            check: 0,
+        };
+    }
+    Refusal::None
+}

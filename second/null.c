@@ -1,0 +1,75 @@
+/* A null page, record or event with length 0 is refused as any wrong length is. */
+#include "null.h"
+
+#include "generate.h"
+#include "show.h"
+
+#include <stdio.h>
+
+enum { FAMILY = 1001, STATES = 64 };
+
+static unsigned calls, failed;
+
+/* Whether a program refuses by this number and leaves every byte. */
+static bool refuses(const struct side *side, const struct trial *before, uint64_t refusal)
+{
+    const struct gg_answer wanted = {GG_REFUSED, refusal, 0};
+    return answer_same(&side->answer, &wanted) && trial_same(&side->trial, before);
+}
+
+static void check(const struct trial *before, uint64_t refusal)
+{
+    static struct pair pair;
+    calls++;
+    pair_run(&pair, before);
+    if (refuses(&pair.model, before, refusal) && refuses(&pair.second, before, refusal))
+        return;
+    printf("difference at a null pointer: refusal %u is due\n", (unsigned)refusal);
+    show_trial(before);
+    show_answer_line("model", &pair.model.answer);
+    show_answer_line("second", &pair.second.answer);
+    show_differences(&pair);
+    failed++;
+}
+
+/* Every choice of null pointers, for one kind of event or for a leave. */
+static void each_choice(struct random *r, unsigned kind)
+{
+    static struct trial t;
+    for (unsigned nulls = 1; nulls <= (NULL_PAGE | NULL_RECORD | NULL_EVENT); nulls++) {
+        generate_state(r, &t);
+        struct gg_event event = generate_event(r, kind);
+        trial_set_event(&t, &event);
+        trial_set_nulls(&t, nulls);
+        if (kind != KIND_LEAVE) {
+            check(&t, nulls & NULL_PAGE ? GG_REFUSED_PAGE_LENGTH : GG_REFUSED_BOUNDS);
+        } else if (nulls & NULL_RECORD) {
+            t.operation = TRIAL_LEAVE;
+            check(&t, GG_REFUSED_BOUNDS);
+        }
+    }
+}
+
+static void fresh(const char *who, const struct program *program)
+{
+    calls++;
+    uint32_t number = program->fresh(NULL, 0);
+    if (number == GG_REFUSED)
+        return;
+    printf("difference at a null record: fresh of the %s answers %u\n", who, (unsigned)number);
+    failed++;
+}
+
+unsigned null_run(uint64_t seed)
+{
+    calls = failed = 0;
+    for (uint64_t state = 0; state < STATES && !failed; state++) {
+        struct random r = random_for(seed, FAMILY, state);
+        for (unsigned kind = GG_ENTRY; kind <= KIND_LEAVE; kind++)
+            each_choice(&r, kind);
+    }
+    fresh("model", &the_model);
+    fresh("second program", &the_second);
+    printf("null: %u calls with null pointers, %u failed\n", calls, failed);
+    return failed;
+}
