@@ -1,11 +1,10 @@
 -- What an input leaves: the answer's numbers, the record and the page. Document 01, "What comes back".
 use Prim.Native.Nat.{ℕ}
 use mathlib.Core.Path.{_≡_}
-use mathlib.Core.Bool.{false}
 use mathlib.Core.List.{List}
 use Rattle.events.specs.declared.answer.Numbers.{Numbers}
 use Rattle.events.specs.Answers.{numbers, numbersOf}
-use Rattle.processor.specs.Controls.{withGuest, withRecognised}
+use Rattle.processor.specs.Controls.{outside}
 use Rattle.processor.specs.declared.controls.Record.{Record}
 use Rattle.events.specs.declared.answer.Outcome.{Outcome}
 
@@ -33,9 +32,6 @@ abbrev pub fault : List ℕ → Record → After
 fault p r = ending (numbers 3 0 0) p r
 
 -- Every exit sets root mode and recognition off; writes made before it stay.
-abbrev pub outside : Record → Record
-outside r = withRecognised (withGuest r false) false
-
 abbrev pub exit : ℕ → ℕ → List ℕ → Record → After
 exit reason qualification p r = ending (numbers 4 reason qualification) p (outside r)
 

@@ -2,8 +2,9 @@
 -- reason of its own.
 use Prim.Native.Nat.{ℕ}
 use mathlib.Core.List.{List}
+use Rattle.processor.specs.Controls.{outside}
 use Rattle.processor.specs.declared.controls.Record.{Record}
-use Rattle.meaning.specs.After.{After, outside, quiet}
+use Rattle.meaning.specs.After.{After, quiet}
 
 -- root mode and recognition off, nothing else; quiet
 unfoldable pub left : List ℕ → Record → After

@@ -1,9 +1,8 @@
 // An answer with its record, on whatever page.
 ghost use Prim.Native.Nat.{ℕ};
 ghost use mathlib.Core.List.{List};
-ghost use mathlib.Core.Path.{_≡_};
 ghost use Rattle.meaning.specs.Leave.{left as leftOf};
-ghost use Rattle.meaning.specs.After.{Leaves, refused as refusedOf, redirected as redirectedOf, passthrough as passthroughOf, fault as faultOf, outside as outsideOf, exit as exitOf, delivered as deliveredOf, quiet as quietOf};
+ghost use Rattle.meaning.specs.After.{Leaves, refused as refusedOf, redirected as redirectedOf, passthrough as passthroughOf, fault as faultOf, exit as exitOf, delivered as deliveredOf, quiet as quietOf};
 use events::answer::Answer;
 use events::answer::Outcome;
 use processor::controls::Record;
@@ -44,16 +43,6 @@ pub fn fault(record: Record) -> Outcome
     }
 }
 
-// Root mode and recognition off, as after every exit.
-fn outside(record: Record) -> Record
-    ensures { λ r. ⌜ r ≡ outsideOf «record» ⌝ }
-{
-    let mut next = record;
-    next.guest = false;
-    next.recognised = false;
-    next
-}
-
 pub fn exit(record: Record, reason: u32, qualification: u64) -> Outcome
     ensures { λ r. ⌜ ((p : List ℕ) → Leaves (exitOf reason qualification p «record») r p) ⌝ }
 {
@@ -62,7 +51,7 @@ pub fn exit(record: Record, reason: u32, qualification: u64) -> Outcome
             reason,
             qualification,
         },
-        record: outside(record),
+        record: record.outside(),
     }
 }
 
@@ -70,7 +59,7 @@ pub fn exit(record: Record, reason: u32, qualification: u64) -> Outcome
 pub fn left(record: Record) -> Outcome
     ensures { λ r. ⌜ ((p : List ℕ) → Leaves (leftOf p «record») r p) ⌝ }
 {
-    quiet(outside(record))
+    quiet(record.outside())
 }
 
 pub fn delivered(record: Record, vector: u8) -> Outcome

@@ -86,3 +86,7 @@ withRecognised r b = record { guest = r .guest; rvi = r .rvi; svi = r .svi; reco
 
 abbrev pub withControls : Record → Controls → Record
 withControls r c = record { guest = r .guest; rvi = r .rvi; svi = r .svi; recognised = r .recognised; controls = c }
+
+-- Every exit sets root mode and recognition off.
+abbrev pub outside : Record → Record
+outside r = withRecognised (withGuest r false) false

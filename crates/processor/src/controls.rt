@@ -1,7 +1,7 @@
 // The processor record and the controls in force.
 ghost use mathlib.Core.Path.{_≡_};
 ghost use Prim.Native.Nat.{_%_};
-ghost use Rattle.processor.specs.Controls.{isOn, flagsInBounds, eoiExitWord, eoiExit, noControls, fresh};
+ghost use Rattle.processor.specs.Controls.{isOn, flagsInBounds, eoiExitWord, eoiExit, noControls, fresh, outside};
 
 // The controls, each by the bit at which it is stored.
 pub const USE_TPR_SHADOW: u8 = 0;
@@ -77,6 +77,18 @@ impl Controls {
         let word = self.eoi_exit_word(vector / 64);
         let at = vector % 64;
         (word >> at) % 2 == 1
+    }
+}
+
+impl Record {
+    // Root mode and recognition off, as after every exit.
+    pub fn outside(self) -> Record
+        ensures { λ r. ⌜ r ≡ outside self ⌝ }
+    {
+        let mut next = self;
+        next.guest = false;
+        next.recognised = false;
+        next
     }
 }
 
