@@ -1,24 +1,31 @@
 -- Condition 1: what is refused, and what each other answer leaves, read off the ordered list of refusals and the ways to end. Assumes
 -- nothing.
 use Prim.Native.Nat.{ℕ}
-use mathlib.Core.Path.{_≡_, refl}
+use mathlib.Core.Path.{_≡_, refl, _∙_, ap, subst}
 use mathlib.Core.Bool.{Bool, true, false, false≢true}
 use mathlib.Core.List.{List}
 use lib.Dec.{eqb, ltb}
+use lib.ListN.{length}
 use Rattle.processor.specs.Controls.{eoiExit}
+use Rattle.processor.specs.declared.controls.Controls.{Controls}
 use Rattle.processor.specs.declared.controls.Record.{Record}
 use Rattle.events.specs.Answers.{numbers}
 use Rattle.events.specs.declared.answer.Numbers.{Numbers}
+use Rattle.events.specs.declared.answer.Refusal.{Refusal}
 use Rattle.events.specs.declared.answer.Refusal.the-variants.{None, By}
-use Rattle.meaning.specs.Input.{Input}
+use Rattle.events.specs.Events.{inBounds, allowed}
+use Rattle.events.specs.declared.event.Event.{Event}
+use Rattle.events.specs.declared.event.Event.the-variants.{Entry, Request, MemoryRead, MemoryWrite, ToCr8, FromCr8, Rdmsr, Wrmsr, Boundary}
+use Rattle.rules.specs.EntryChecks.{failingCheck}
+use Rattle.meaning.specs.Input.{Input, given, leaves}
 use Rattle.meaning.specs.After.{After, quiet}
 use Rattle.meaning.specs.Procedures.{evaluatedQuiet, retiredRecord, eoiEnd, eoiVirtualization, selfIpiVirtualization}
 use Rattle.meaning.specs.Entry.{request}
 use Rattle.meaning.specs.Boundary.{delivery}
 use Rattle.meaning.specs.Leave.{left}
-use Rattle.meaning.specs.Refusals.{pageFits, fieldsFit, modeFits, checkOf, refusalOf}
+use Rattle.meaning.specs.Refusals.{eventCheck, refusalOf}
 use Rattle.meaning.specs.Step.{stepBy, step}
-use Rattle.meaning.specs.Condition1.{Refused, changesNothing, CarriedOut, Answered}
+use Rattle.meaning.specs.Condition1.{Refused, changesNothing, CarriedOut, Answered, LeaveAnswered}
 use Rattle.meaning.proofs.Refused.{refusal-1, refusal-2, refusal-3, refusal-4, no-refusal}
 use Rattle.meaning.proofs.Endings.{Ends, reads, passes, faults, exits, stores, evaluates, enters, retiring, sending, requesting, delivering, leaving, ends}
 
@@ -90,26 +97,46 @@ module _ (p : List ℕ) (r : Record) where
     unfolding step stepBy
     other-step e = simp e (carried-out (ends p r i e))
 
-    -- condition 1, of any input
-    pub answered : Answered p r i (step p r i)
-    answered = record {
-      wrongLength = λ l. refused-step 1 0 (refusal-1 p r i l);
-      malformed = λ l f. refused-step 2 0 (refusal-2 p r i l f);
-      wrongMode = λ l f m. refused-step 3 0 (refusal-3 p r i l f m);
-      failedCheck = λ l f m n. refused-step 4 (checkOf i) (refusal-4 p r i l f m n);
-      other = λ l f m n. other-step (no-refusal p r i l f m n);
-    }
-
     -- refused, redirected, passthrough and fault leave the page and the record
     pub nothing-changes : changesNothing (step p r i .answer) ≡ true → (step p r i .page ≡ p) × (step p r i .state ≡ r)
-    nothing-changes t = by (pageFits p i) (fieldsFit r i) (modeFits r i) (eqb (checkOf i) 0) refl refl refl refl
+    nothing-changes t = by (refusalOf p r i) refl
       where
-        both : {number check : ℕ} → Refused number check p r (step p r i) → (step p r i .page ≡ p) × (step p r i .state ≡ r)
-        both x = (x .page, x .state)
+        by : (x : Refusal) → refusalOf p r i ≡ x → (step p r i .page ≡ p) × (step p r i .state ≡ r)
+        by None e = (other-step e .page t, other-step e .state t)
+        by (By number check) e = (refused-step number check e .page, refused-step number check e .state)
 
-        by : (x y z w : Bool) → pageFits p i ≡ x → fieldsFit r i ≡ y → modeFits r i ≡ z → eqb (checkOf i) 0 ≡ w → (step p r i .page ≡ p) × (step p r i .state ≡ r)
-        by false y z w ex ey ez ew = both (answered .wrongLength ex)
-        by true false z w ex ey ez ew = both (answered .malformed ex ey)
-        by true true false w ex ey ez ew = both (answered .wrongMode ex ey ez)
-        by true true true false ex ey ez ew = both (answered .failedCheck ex ey ez ew)
-        by true true true true ex ey ez ew = (answered .other ex ey ez ew .page t, answered .other ex ey ez ew .state t)
+  -- an entry that fails a check
+  failed : (e : Event) → eqb (length p) 4096 ≡ true → inBounds r e ≡ true → allowed r e ≡ true → (c : Controls) → e ≡ Entry c → eqb (failingCheck c) 0 ≡ false → Refused 4 (failingCheck c) p r (step p r (given e))
+  failed e l f m c q n =
+      subst (λ k. Refused 4 k p r (step p r (given e))) (ap eventCheck q)
+      (refused-step (given e) 4 (eventCheck e) (refusal-4 p r (given e) l f m (ap (λ (x : Event). eqb (eventCheck x) 0) q ∙ n)))
+
+  -- an event whose checks, if it has any, pass
+  unchecked : (e : Event) → ((c : Controls) → e ≡ Entry c → eqb (failingCheck c) 0 ≡ true) → eqb (eventCheck e) 0 ≡ true
+  unchecked (Entry c) h = h c refl
+  unchecked (Request vector) h = refl
+  unchecked (MemoryRead offset size fetch already) h = refl
+  unchecked (MemoryWrite offset size fetch already value) h = refl
+  unchecked (ToCr8 value register) h = refl
+  unchecked (FromCr8 register) h = refl
+  unchecked (Rdmsr index) h = refl
+  unchecked (Wrmsr index value) h = refl
+  unchecked (Boundary interrupts sti movSs activity) h = refl
+
+  -- condition 1, of any event
+  pub answered : (e : Event) → Answered p r e (step p r (given e))
+  answered e = record {
+    wrongLength = λ l. refused-step (given e) 1 0 (refusal-1 p r (given e) l);
+    malformed = λ l f. refused-step (given e) 2 0 (refusal-2 p r (given e) l f);
+    wrongMode = λ l f m. refused-step (given e) 3 0 (refusal-3 p r (given e) l f m);
+    failedCheck = λ l f m c q n. failed e l f m c q n;
+    other = λ l f m h. other-step (given e) (no-refusal p r (given e) l f m (unchecked e h));
+  }
+
+  -- and of a guest that leaves
+  pub leave-answered : LeaveAnswered p r (step p r leaves)
+  leave-answered = record {
+    malformed = λ f. refused-step leaves 2 0 (refusal-2 p r leaves refl f);
+    wrongMode = λ f m. refused-step leaves 3 0 (refusal-3 p r leaves refl f m);
+    other = λ f m. other-step leaves (no-refusal p r leaves refl f m refl);
+  }

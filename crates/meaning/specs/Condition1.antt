@@ -5,12 +5,17 @@ use mathlib.Core.Path.{_≡_}
 use mathlib.Core.Bool.{Bool, true, false}
 use mathlib.Core.List.{List}
 use lib.Dec.{eqb, ltb}
+use lib.ListN.{length}
+use Rattle.processor.specs.Controls.{flagsInBounds}
+use Rattle.processor.specs.declared.controls.Controls.{Controls}
 use Rattle.processor.specs.declared.controls.Record.{Record}
 use Rattle.events.specs.declared.answer.Numbers.{Numbers}
 use Rattle.events.specs.Answers.{numbers}
-use Rattle.meaning.specs.Input.{Input}
+use Rattle.events.specs.Events.{inBounds, allowed}
+use Rattle.events.specs.declared.event.Event.{Event}
+use Rattle.events.specs.declared.event.Event.the-variants.{Entry}
+use Rattle.rules.specs.EntryChecks.{failingCheck}
 use Rattle.meaning.specs.After.{After}
-use Rattle.meaning.specs.Refusals.{pageFits, fieldsFit, modeFits, checkOf}
 
 -- refused by its number, other numbers zero save the failing check's, with page and record unchanged
 pub record Refused (number check : ℕ) (p : List ℕ) (r : Record) (a : After) : Type 0 where
@@ -33,11 +38,17 @@ pub record CarriedOut (p : List ℕ) (r : Record) (a : After) : Type 0 where
   pub root : isExit (a .answer) ≡ true → a .state .guest ≡ false
   pub unrecognised : isExit (a .answer) ≡ true → a .state .recognised ≡ false
 
--- A wrong page length, a malformed event or record, an event in the wrong mode and a failed entry check are refused, in this order,
--- and nothing else is.
-pub record Answered (p : List ℕ) (r : Record) (i : Input) (a : After) : Type 0 where
-  pub wrongLength : pageFits p i ≡ false → Refused 1 0 p r a
-  pub malformed : pageFits p i ≡ true → fieldsFit r i ≡ false → Refused 2 0 p r a
-  pub wrongMode : pageFits p i ≡ true → fieldsFit r i ≡ true → modeFits r i ≡ false → Refused 3 0 p r a
-  pub failedCheck : pageFits p i ≡ true → fieldsFit r i ≡ true → modeFits r i ≡ true → eqb (checkOf i) 0 ≡ false → Refused 4 (checkOf i) p r a
-  pub other : pageFits p i ≡ true → fieldsFit r i ≡ true → modeFits r i ≡ true → eqb (checkOf i) 0 ≡ true → CarriedOut p r a
+-- An event: a wrong page length, a malformed event or record, an event in the wrong mode and a failed entry check are refused, in this
+-- order, and nothing else is. The facts are stated by themselves and not by the list's own tests.
+pub record Answered (p : List ℕ) (r : Record) (e : Event) (a : After) : Type 0 where
+  pub wrongLength : eqb (length p) 4096 ≡ false → Refused 1 0 p r a
+  pub malformed : eqb (length p) 4096 ≡ true → inBounds r e ≡ false → Refused 2 0 p r a
+  pub wrongMode : eqb (length p) 4096 ≡ true → inBounds r e ≡ true → allowed r e ≡ false → Refused 3 0 p r a
+  pub failedCheck : eqb (length p) 4096 ≡ true → inBounds r e ≡ true → allowed r e ≡ true → (c : Controls) → e ≡ Entry c → eqb (failingCheck c) 0 ≡ false → Refused 4 (failingCheck c) p r a
+  pub other : eqb (length p) 4096 ≡ true → inBounds r e ≡ true → allowed r e ≡ true → ((c : Controls) → e ≡ Entry c → eqb (failingCheck c) 0 ≡ true) → CarriedOut p r a
+
+-- A guest that leaves, on any page slice: a malformed record and root mode are refused, in this order, and nothing else is.
+pub record LeaveAnswered (p : List ℕ) (r : Record) (a : After) : Type 0 where
+  pub malformed : flagsInBounds (r .controls) ≡ false → Refused 2 0 p r a
+  pub wrongMode : flagsInBounds (r .controls) ≡ true → r .guest ≡ false → Refused 3 0 p r a
+  pub other : flagsInBounds (r .controls) ≡ true → r .guest ≡ true → CarriedOut p r a
