@@ -9,11 +9,15 @@
 #include <string.h>
 #include <time.h>
 
-enum { RUNNERS = 4, TRIES = 5 };
+enum { RUNNERS = 5, TRIES = 5 };
 
-/* The same rules with the register's words searched instead of its bits. */
-struct outcome oracle_step_words(struct cpu *cpu, uint8_t *page, size_t page_len,
-                                 const struct happening *event);
+typedef uint32_t bytes_function(uint8_t *, size_t, uint8_t *, size_t, const uint8_t *, size_t, uint64_t *,
+                                uint64_t *);
+typedef struct outcome fields_function(struct cpu *, uint8_t *, size_t, const struct happening *);
+
+/* The second program with a register's words searched instead of its bits. */
+bytes_function second_step_words;
+fields_function oracle_step_words;
 
 /* A workload with room for its running state, in bytes and in the second program's fields. */
 struct bench {
@@ -40,10 +44,6 @@ static void reset(struct bench *b)
         b->happenings[i] = edge_happening((const uint8_t *)&b->work.events[i], sizeof b->work.events[i]);
     b->sum = 0;
 }
-
-typedef uint32_t bytes_function(uint8_t *, size_t, uint8_t *, size_t, const uint8_t *, size_t, uint64_t *,
-                                uint64_t *);
-typedef struct outcome fields_function(struct cpu *, uint8_t *, size_t, const struct happening *);
 
 static void run_bytes(struct bench *b, uint64_t rounds, bytes_function *step)
 {
@@ -73,7 +73,7 @@ static void run_fields(struct bench *b, uint64_t rounds, fields_function *step)
     b->sum += sum;
 }
 
-static const char *const runner_names[RUNNERS] = {"model", "bytes", "bits", "words"};
+static const char *const runner_names[RUNNERS] = {"model", "bytes", "bytes-words", "bits", "words"};
 
 static void run(struct bench *b, unsigned runner, uint64_t rounds)
 {
@@ -85,6 +85,9 @@ static void run(struct bench *b, unsigned runner, uint64_t rounds)
         run_bytes(b, rounds, second_step);
         break;
     case 2:
+        run_bytes(b, rounds, second_step_words);
+        break;
+    case 3:
         run_fields(b, rounds, oracle_step);
         break;
     default:
@@ -133,22 +136,49 @@ static struct figures measure(struct bench *b, unsigned runner)
 /* Whether every runner answers alike, so that the figures compare equal work. */
 static bool agree(struct bench *b)
 {
-    uint64_t sums[RUNNERS];
+    uint64_t first = 0;
     for (unsigned runner = 0; runner < RUNNERS; runner++) {
         reset(b);
         run(b, runner, 3);
-        sums[runner] = b->sum;
+        if (runner == 0)
+            first = b->sum;
+        else if (b->sum != first)
+            return false;
     }
-    return sums[0] == sums[1] && sums[0] == sums[2] && sums[0] == sums[3];
+    return true;
+}
+
+static int all_agree(void)
+{
+    static struct bench b;
+    int status = 0;
+    for (unsigned which = 0; which < WORKLOADS; which++) {
+        workload_make(&b.work, which);
+        if (!agree(&b)) {
+            printf("%-13s the programs answer differently\n", b.work.name);
+            status = 1;
+        }
+    }
+    return status;
+}
+
+static void print_head(void)
+{
+    printf("%-13s %-13s", "per event", "unit");
+    for (unsigned runner = 0; runner < RUNNERS; runner++)
+        printf("%12s", runner_names[runner]);
+    for (unsigned runner = 1; runner < RUNNERS; runner++)
+        printf("%*s/%s", 12 - (int)strlen(runner_names[runner]), "", runner_names[runner]);
+    printf("\n");
 }
 
 static void print_row(const char *name, const char *unit, const double *values)
 {
     printf("%-13s %-13s", name, unit);
     for (unsigned runner = 0; runner < RUNNERS; runner++)
-        printf("%10.1f", values[runner]);
+        printf("%12.1f", values[runner]);
     for (unsigned runner = 1; runner < RUNNERS; runner++)
-        printf("%10.2f", values[0] / values[runner]);
+        printf("%13.2f", values[0] / values[runner]);
     printf("\n");
 }
 
@@ -156,8 +186,7 @@ static int report(void)
 {
     static struct bench b;
     int status = 0;
-    printf("%-13s %-13s%10s%10s%10s%10s%10s%10s%10s\n", "per event", "unit", "model", "bytes", "bits", "words",
-           "/bytes", "/bits", "/words");
+    print_head();
     for (unsigned which = 0; which < WORKLOADS; which++) {
         double ns[RUNNERS], instructions[RUNNERS];
         workload_make(&b.work, which);
@@ -188,6 +217,13 @@ static int list(void)
     return 0;
 }
 
+static int runners(void)
+{
+    for (unsigned runner = 0; runner < RUNNERS; runner++)
+        printf("%s\n", runner_names[runner]);
+    return 0;
+}
+
 /* Runs one workload for a stated number of rounds and nothing else, for a counter outside. */
 static int only(const char *runner_name, const char *name, const char *rounds)
 {
@@ -209,11 +245,14 @@ static int help(FILE *to, int status)
     fputs("usage: bench                             times every workload and prints ratios\n"
           "       bench --emulated                  the same, for a run in an emulator\n"
           "       bench --list                      names the workloads, their events, what they do\n"
+          "       bench --runners                   names the runners\n"
+          "       bench --agree                     says which workloads the runners answer differently\n"
           "       bench --only RUNNER NAME ROUNDS   runs one workload, for a counter outside\n\n"
-          "Runners: model  the proved model, through the static library\n"
-          "         bytes  the second program behind the same bytes, searching bit by bit\n"
-          "         bits   the second program on its own fields, searching bit by bit\n"
-          "         words  the second program on its own fields, searching word by word\n",
+          "Runners: model        the proved model, through the static library\n"
+          "         bytes        the second program behind the same bytes, searching bit by bit\n"
+          "         bytes-words  the second program behind the same bytes, searching word by word\n"
+          "         bits         the second program on its own fields, searching bit by bit\n"
+          "         words        the second program on its own fields, searching word by word\n",
           to);
     return status;
 }
@@ -224,6 +263,10 @@ int main(int count, char **words)
         return help(stdout, 0);
     if (count == 2 && strcmp(words[1], "--list") == 0)
         return list();
+    if (count == 2 && strcmp(words[1], "--runners") == 0)
+        return runners();
+    if (count == 2 && strcmp(words[1], "--agree") == 0)
+        return all_agree();
     if (count == 5 && strcmp(words[1], "--only") == 0)
         return only(words[2], words[3], words[4]);
     bool emulated = count == 2 && strcmp(words[1], "--emulated") == 0;

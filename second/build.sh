@@ -51,13 +51,23 @@ build_compare() {
             stage named null matters compare) "$1" -o "$out/compare"
 }
 
+# The second program's rules and boundary once more, searching by words, each function under a name of its own.
+build_words() {
+    renamed=
+    for function_name in oracle_step oracle_leave edge_cpu edge_happening second_step second_leave second_fresh; do
+        renamed="$renamed -D$function_name=${function_name}_words"
+    done
+    for source_name in oracle edge; do
+        $CC $flags -DWITHOUT_FAULTS -DSCAN_WORDS $renamed -c "$root/second/$source_name.c" \
+            -o "$out/${source_name}_words.o" || return 1
+    done
+}
+
 # build_bench ARCHIVE: the second program without faults, searching by bits and once more by words
 build_bench() {
-    need_archive "$1" &&
-        $CC $flags -DWITHOUT_FAULTS -DSCAN_WORDS -Doracle_step=oracle_step_words \
-            -Doracle_leave=oracle_leave_words -c "$root/second/oracle.c" -o "$out/oracle_words.o" &&
+    need_archive "$1" && build_words &&
         $CC $flags -DWITHOUT_FAULTS $(sources oracle bounds open edge workload counter bench) \
-            "$out/oracle_words.o" "$1" -o "$out/bench"
+            "$out/oracle_words.o" "$out/edge_words.o" "$1" -o "$out/bench"
 }
 
 # build_simulator ARCHIVE

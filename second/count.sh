@@ -57,8 +57,30 @@ per_event() {
 
 chosen=${*:-mix nesting near-empty full}
 [ "$chosen" = --all ] && chosen=$($RUN "$out/bench" --list | awk '{ print $1 }')
+runners=$($RUN "$out/bench" --runners)
 
-printf '%-13s%10s%10s%10s%10s%10s%10s%10s\n' instructions model bytes bits words /bytes /bits /words
+# Figures compare equal work only.
+$RUN "$out/bench" --agree || exit 1
+
+# row NAME FIGURE...: the figures, then the model's over each of the others
+row() {
+    echo "$@" | awk '{
+        printf "%-13s", $1
+        for (i = 2; i <= NF; i++) printf "%12s", $i
+        for (i = 3; i <= NF; i++) printf "%13.2f", $2 / $i
+        printf "\n" }'
+}
+
+# A search by what seven empty words take: the same three events over near-empty and full registers have two searches.
+per_search() {
+    echo "$1 $2" | awk '{ for (i = 1; i <= NF / 2; i++) printf " %.1f", ($i - $(i + NF / 2)) * 3 / 2 }'
+}
+
+printf '%-13s' instructions
+printf '%12s' $runners
+printf '%13s' $(echo $runners | awk '{ for (i = 2; i <= NF; i++) print "/" $i }')
+printf '\n'
+near_empty= full=
 for workload in $chosen; do
     events=$($RUN "$out/bench" --list | awk -v name="$workload" '$1 == name { print $2 }')
     if [ -z "$events" ]; then
@@ -66,9 +88,13 @@ for workload in $chosen; do
         exit 2
     fi
     figures=
-    for runner in model bytes bits words; do
+    for runner in $runners; do
         figures="$figures $(per_event $runner "$workload" "$events")"
     done
-    echo "$workload$figures" | awk '{
-        printf "%-13s%10s%10s%10s%10s%10.2f%10.2f%10.2f\n", $1, $2, $3, $4, $5, $2 / $3, $2 / $4, $2 / $5 }'
+    row "$workload" $figures
+    case $workload in
+    near-empty) near_empty=$figures ;;
+    full) full=$figures ;;
+    esac
 done
+[ -z "$near_empty" ] || [ -z "$full" ] || row search $(per_search "$near_empty" "$full")

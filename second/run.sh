@@ -56,7 +56,7 @@ faults() {
     $RUN "$out/compare" faults 2>/dev/null | cut -d' ' -f1
 }
 
-rm -f "$out/compare" "$out/simulator"
+rm -f "$out/compare" "$out/bench" "$out/simulator"
 expect 0 header-c build_header_c
 expect 0 header-cpp build_header_cpp
 expect 0 build-compare build_compare "$archive"
@@ -71,6 +71,8 @@ done
 expect 1 null-fault-page-length-after-bounds find_fault page-length-after-bounds null
 expect 1 matters-fault-hlt-is-shut find_fault hlt-is-shut matters
 expect 1 matters-fault-mov-ss-is-open find_fault mov-ss-is-open matters
+expect 0 build-bench build_bench "$archive"
+expect 0 bench-agree $RUN "$out/bench" --agree
 expect 0 build-simulator build_simulator "$archive"
 expect 0 simulator simulator
 

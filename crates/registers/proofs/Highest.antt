@@ -1,36 +1,20 @@
--- The search for the highest set vector: bit by bit down a word, word by word down the register at base 0. Assumes nothing.
+-- The search for the highest set vector: a word's by its leading zeros, word by word down the register at base 0. Assumes nothing.
 use Prim.Native.Nat.{ℕ, zero, suc, _+_, _-_, _*_, _/_, _%_, _^_, _<_, _≤_}
-use native.Mathlib.Nat.{not-suc-le-zero, le-refl, add-zero, add-suc}
-use native.Mathlib.Numerals.{sub-one}
+use native.Mathlib.Nat.{not-suc-le-zero, le-refl, add-zero, add-suc, sub-add-cancel, pow-succ', le-div-iff-mul-le, div-lt-iff-lt-mul}
 use native.Mathlib.Omega.{arith}
-use mathlib.Core.Path.{_≡_, sym, _∙_, ap}
+use mathlib.Core.Path.{_≡_, refl, sym, _∙_, ap}
 use mathlib.Core.Bool.{Bool, true, false}
 use mathlib.Core.List.{List}
-use borrow.Author.Tests.{eq-eqb, ne-eqb}
+use lib.Count.{leadingZeros, leading-unique}
+use lib.Pow.{pow-pos}
+use borrow.Author.Tests.{eqb-true, eqb-false}
 use Rattle.processor.specs.Logic.{if_then_else_, bit}
 use Rattle.page.specs.Page.{byteAt, wordAt}
 use Rattle.registers.specs.Vectors.{isSet, highestBit, highest}
 use Rattle.registers.proofs.Top.{top, highest-top}
 use Rattle.registers.proofs.Words.{vector-in-word}
 
--- ---- down a word, from bit n
-bit-step : (word n : ℕ) → 0 < n → highestBit word n ≡ (if bit word (n - 1) then n else highestBit word (n - 1))
-unfolding highestBit
-bit-step word zero h = absurd (not-suc-le-zero h)
-bit-step word (suc k) h = simp sub-one
-
-module _ (word n : ℕ) (some : 0 < n) (left : highestBit word 32 ≡ highestBit word n) where
-  pub bit-found : word / 2 ^ (n - 1) % 2 ≡ 1 → n ≡ highestBit word 32
-  bit-found e = sym (left ∙ bit-step word n some ∙ simp (eq-eqb (word / 2 ^ (n - 1) % 2) 1 e))
-
-  pub bit-next : (word / 2 ^ (n - 1) % 2 ≡ 1 → ⊥) → highestBit word 32 ≡ highestBit word (n - 1)
-  bit-next e = left ∙ bit-step word n some ∙ simp (ne-eqb (word / 2 ^ (n - 1) % 2) 1 e)
-
-pub bit-over : (word n : ℕ) → n ≤ 0 → highestBit word 32 ≡ highestBit word n → 0 ≡ highestBit word 32
-unfolding highestBit
-bit-over word zero h left = sym left
-bit-over word (suc n) h left = absurd (not-suc-le-zero h)
-
+-- ---- the highest set bit of a word, by its leading zeros
 pub bit-most : (word n : ℕ) → highestBit word n ≤ n
 unfolding highestBit
 bit-most word zero = le-refl 0
@@ -39,6 +23,45 @@ bit-most word (suc k) = by (bit word k) (highestBit word k) (bit-most word k)
     by : (b : Bool) (t : ℕ) → t ≤ k → (if b then suc k else t) ≤ suc k
     by true t l = le-refl (suc k)
     by false t l = omega arith
+
+-- m bits hold the word, and no fewer do
+abbrev Length : ℕ → ℕ → Type 0
+Length word m = (word < 2 ^ m) × (2 ^ m ≤ 2 * word + 1)
+
+-- counted from 1, the highest set bit is the word's length
+bit-length : (word n : ℕ) → word < 2 ^ n → Length word (highestBit word n)
+unfolding highestBit
+bit-length word zero h = (h, omega arith)
+bit-length word (suc k) h = by (bit word k) refl (bit-length word k)
+  where
+    quotient : word / 2 ^ k < 2
+    quotient = div-lt-iff-lt-mul (pow-pos k) .1 (rw (sym (pow-succ' 2 k)) h)
+
+    set : word / 2 ^ k % 2 ≡ 1 → 1 ≤ word / 2 ^ k
+    set e = omega arith
+
+    double : 1 * 2 ^ k ≤ word → 2 * 2 ^ k ≤ 2 * word + 1
+    double l = omega arith
+
+    clear : (word / 2 ^ k % 2 ≡ 1 → ⊥) → word / 2 ^ k < 2 → word / 2 ^ k < 1
+    clear e l = omega arith
+
+    below : word < 1 * 2 ^ k → word < 2 ^ k
+    below l = omega arith
+
+    by : (b : Bool) → bit word k ≡ b → (word < 2 ^ k → Length word (highestBit word k)) → Length word (if b then suc k else highestBit word k)
+    by true e ih = (h, rw (pow-succ' 2 k) (double (le-div-iff-mul-le (pow-pos k) .0 (set (eqb-true (word / 2 ^ k % 2) 1 e)))))
+    by false e ih = ih (below (div-lt-iff-lt-mul (pow-pos k) .0 (clear (eqb-false (word / 2 ^ k % 2) 1 e) quotient)))
+
+-- so it is what the leading zeros leave of a word's n bits
+pub leading-highest : (word n : ℕ) → word < 2 ^ n → n - leadingZeros n word ≡ highestBit word n
+leading-highest word n h =
+    let length = bit-length word n h in
+    rest (leadingZeros n word) (highestBit word n) (bit-most word n)
+    (leading-unique n word (n - highestBit word n) (highestBit word n) (sub-add-cancel (bit-most word n)) (length .0) (length .1))
+  where
+    rest : (zeros high : ℕ) → high ≤ n → n - high ≡ zeros → n - zeros ≡ high
+    rest zeros high l e = omega arith
 
 -- ---- down a register, from word `left`
 -- the top of m bits and n more above them, by the highest of those n

@@ -42,18 +42,14 @@ pub fn put_vector(page: &mut [u8], base: u16, vector: u8, on: bool)
     }
 }
 
-// The highest set bit of a word, counted from 1, found bit by bit from the top; 0 where none is set.
+// The highest set bit of a word, counted from 1: what its leading zeros leave of its 32 bits; 0 where none is set.
 fn highest_bit(word: u32) -> u32
     ensures { λ r. ⌜ r ≡ highestBit word 32 ⌝ }
 {
-    let mut n: u32 = 32;
-    while 0 < n {
-        if (word >> (n - 1)) % 2 == 1 {
-            return n;
-        }
-        n = n - 1;
+    if word == 0 {
+        return 0;
     }
-    0
+    32 - u32::leading_zeros(word)
 }
 
 // The highest set vector of a register that starts where the slice does, 0 where it is empty: its eight words from the top.
