@@ -133,18 +133,22 @@ static struct figures measure(struct bench *b, unsigned runner)
     return best;
 }
 
-/* Whether every runner answers alike, so that the figures compare equal work. */
+static uint64_t sum_of(struct bench *b, unsigned runner)
+{
+    reset(b);
+    run(b, runner, 3);
+    return b->sum;
+}
+
+/* Whether every runner answers as the model does, so that figures compare equal work; names one that doesn't. */
 static bool agree(struct bench *b)
 {
-    uint64_t first = 0;
-    for (unsigned runner = 0; runner < RUNNERS; runner++) {
-        reset(b);
-        run(b, runner, 3);
-        if (runner == 0)
-            first = b->sum;
-        else if (b->sum != first)
+    uint64_t sum = sum_of(b, 0);
+    for (unsigned runner = 1; runner < RUNNERS; runner++)
+        if (sum_of(b, runner) != sum) {
+            printf("%-13s %s and the model answer differently\n", b->work.name, runner_names[runner]);
             return false;
-    }
+        }
     return true;
 }
 
@@ -154,10 +158,8 @@ static int all_agree(void)
     int status = 0;
     for (unsigned which = 0; which < WORKLOADS; which++) {
         workload_make(&b.work, which);
-        if (!agree(&b)) {
-            printf("%-13s the programs answer differently\n", b.work.name);
+        if (!agree(&b))
             status = 1;
-        }
     }
     return status;
 }
@@ -191,7 +193,6 @@ static int report(void)
         double ns[RUNNERS], instructions[RUNNERS];
         workload_make(&b.work, which);
         if (!agree(&b)) {
-            printf("%-13s the programs answer differently\n", b.work.name);
             status = 1;
             continue;
         }

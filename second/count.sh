@@ -1,6 +1,7 @@
 #!/bin/sh
 # Counts instructions per event: count.sh [--archive ARCHIVE] [--all | WORKLOAD...]
 # A workload runs at two lengths; the difference leaves out what a start costs.
+# With near-empty and full among the workloads, a last row counts a search over seven empty words.
 set -eu
 
 root=$(cd "$(dirname "$0")/.." && pwd)
@@ -71,7 +72,7 @@ row() {
         printf "\n" }'
 }
 
-# A search by what seven empty words take: the same three events over near-empty and full registers have two searches.
+# per_search NEAR-EMPTY FULL: both have the same three events, two of them with a search.
 per_search() {
     echo "$1 $2" | awk '{ for (i = 1; i <= NF / 2; i++) printf " %.1f", ($i - $(i + NF / 2)) * 3 / 2 }'
 }
