@@ -7,7 +7,8 @@ use crate::outcome::exit;
 use crate::outcome::passthrough;
 use crate::outcome::quiet;
 use crate::outcome::redirected;
-use crate::procedures::eoi_virtualization;
+use crate::procedures::eoi_end;
+use crate::procedures::retired;
 use crate::procedures::self_ipi_virtualization;
 use crate::procedures::tpr_virtualization;
 use accesses::memory::Following;
@@ -67,7 +68,8 @@ fn follow(page: &mut [u8], record: Record, offset: u16, following: Following) ->
         }
         Following::Eoi => {
             set_word(page, VEOI, 0);
-            eoi_virtualization(page, record)
+            let next = retired(page, record);
+            eoi_end(page, next, record.svi)
         }
         Following::SelfIpi => {
             let vector = byte_at(page, VICR_LO);

@@ -5,7 +5,8 @@ use crate::outcome::exit;
 use crate::outcome::fault;
 use crate::outcome::passthrough;
 use crate::outcome::redirected;
-use crate::procedures::eoi_virtualization;
+use crate::procedures::eoi_end;
+use crate::procedures::retired;
 use crate::procedures::self_ipi_virtualization;
 use crate::procedures::tpr_virtualization;
 use events::answer::Outcome;
@@ -39,7 +40,8 @@ fn follow_msr(page: &mut [u8], record: Record, index: u32, value: u64, write: Ms
         }
         MsrWrite::Eoi => {
             set_long(page, msr_offset(index), value);
-            eoi_virtualization(page, record)
+            let next = retired(page, record);
+            eoi_end(page, next, record.svi)
         }
         MsrWrite::SelfIpi => {
             set_long(page, msr_offset(index), value);

@@ -1,7 +1,7 @@
 // The five procedures.
 ghost use mathlib.Core.Path.{_≡_};
 ghost use Rattle.meaning.specs.After.{Leaves};
-ghost use Rattle.meaning.specs.Procedures.{pprVirtualization, evaluation as evaluationOf, evaluatedQuiet, tprVirtualization, eoiEnd, eoiVirtualization, requestedRecord, selfIpiVirtualization};
+ghost use Rattle.meaning.specs.Procedures.{pprVirtualization, evaluation as evaluationOf, evaluatedQuiet, tprVirtualization, retiredPage, retiredRecord, eoiEnd, requestedRecord, selfIpiVirtualization};
 use crate::outcome::exit;
 use crate::outcome::quiet;
 use events::answer::Outcome;
@@ -58,7 +58,18 @@ pub fn tpr_virtualization(page: &mut [u8], record: Record) -> Outcome
     quiet(record)
 }
 
-fn eoi_end(page: &mut [u8], record: Record, old: u8) -> Outcome
+// EOI virtualization, its first part: VISR loses SVI, and SVI is the highest vector left there.
+pub fn retired(page: &mut [u8], record: Record) -> Record
+    ensures { λ r. ⌜ (now (page .exit) ≡ retiredPage (now (page .entry)) «record») × (r ≡ retiredRecord (now (page .entry)) «record») ⌝ }
+{
+    put_vector(page, VISR, record.svi, false);
+    let mut next = record;
+    next.svi = highest_vector(page, VISR);
+    next
+}
+
+// EOI virtualization, the rest of it, with the record that has retired the old vector.
+pub fn eoi_end(page: &mut [u8], record: Record, old: u8) -> Outcome
     ensures { λ r. ⌜ Leaves (eoiEnd old (now (page .entry)) «record») r (now (page .exit)) ⌝ }
 {
     let controls = record.controls;
@@ -67,16 +78,6 @@ fn eoi_end(page: &mut [u8], record: Record, old: u8) -> Outcome
         return exit(record, 45, old as u64);
     }
     evaluated_quiet(page, record)
-}
-
-pub fn eoi_virtualization(page: &mut [u8], record: Record) -> Outcome
-    ensures { λ r. ⌜ Leaves (eoiVirtualization (now (page .entry)) «record») r (now (page .exit)) ⌝ }
-{
-    let old = record.svi;
-    put_vector(page, VISR, old, false);
-    let mut next = record;
-    next.svi = highest_vector(page, VISR);
-    eoi_end(page, next, old)
 }
 
 // The record after a request of the vector.

@@ -1,5 +1,6 @@
 -- `model::memory::follow` meets its contract: code and definition take the same cases. Assumes nothing.
 use Rattle.meaning.specs.Memory.{followBy}
+use Rattle.meaning.specs.Procedures.{eoiVirtualization}
 use borrow.Author.Needs.{needs}
 use Rattle.model.proofs.memory.follow.Statement.{statement}
 use Rattle.model.proofs.memory.follow.Tie as tie
@@ -13,12 +14,13 @@ returns c =
     simp (at-enum-told .enum-told .given .1, ← (at-clear-three .clear-three .ensures)) (at-tpr-virtualization .tpr-virtualization .ensures)
 
 returns-2 : tie.Need-returns-2
-unfolding followBy
+unfolding followBy eoiVirtualization
 returns-2 c =
-    let at-eoi-virtualization = c .before .before in
-    let at-set-word = at-eoi-virtualization .before .before .before .before in
+    let at-eoi-end = c .before .before in
+    let at-retired = at-eoi-end .before .before .before .before in
+    let at-set-word = at-retired .before .before .before .before in
     let at-enum-told2 = at-set-word .before .before in
-    simp (at-enum-told2 .enum-told2 .given .1, ← (at-set-word .set-word .ensures)) (at-eoi-virtualization .eoi-virtualization .ensures)
+    simp (at-enum-told2 .enum-told2 .given .1, ← (at-set-word .set-word .ensures), ← (at-retired .retired .ensures .0), ← (at-retired .retired .ensures .1)) (at-eoi-end .eoi-end .ensures)
 
 returns-3 : tie.Need-returns-3
 unfolding followBy
@@ -41,6 +43,7 @@ follow-spec =
     (λ c κs. search needs)
     (λ c κs. tt)
     (λ c. search needs)
+    (λ c κs. tt)
     (λ c κs. tt)
     (λ c κs. tt)
     (λ c. search needs)

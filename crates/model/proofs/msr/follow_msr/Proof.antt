@@ -1,5 +1,6 @@
 -- `model::msr::follow_msr` meets its contract: code and definition take the same cases. Assumes nothing.
 use Rattle.meaning.specs.Cr8Msr.{writeMsrBy}
+use Rattle.meaning.specs.Procedures.{eoiVirtualization}
 use borrow.Author.Needs.{needs}
 use Rattle.model.proofs.msr.follow_msr.Statement.{statement}
 use Rattle.model.proofs.msr.follow_msr.Tie as tie
@@ -21,12 +22,13 @@ returns-3 c =
     simp (at-enum-told3 .enum-told3 .given .1, ← (at-set-long .before .msr-offset .ensures), ← (at-set-long .set-long .ensures)) (at-tpr-virtualization .tpr-virtualization .ensures)
 
 returns-4 : tie.Need-returns-4
-unfolding writeMsrBy
+unfolding writeMsrBy eoiVirtualization
 returns-4 c =
-    let at-eoi-virtualization = c .before .before in
-    let at-set-long2 = at-eoi-virtualization .before .before .before .before in
+    let at-eoi-end = c .before .before in
+    let at-retired = at-eoi-end .before .before .before .before in
+    let at-set-long2 = at-retired .before .before .before .before in
     let at-enum-told4 = at-set-long2 .before .before .before in
-    simp (at-enum-told4 .enum-told4 .given .1, ← (at-set-long2 .before .msr-offset2 .ensures), ← (at-set-long2 .set-long2 .ensures)) (at-eoi-virtualization .eoi-virtualization .ensures)
+    simp (at-enum-told4 .enum-told4 .given .1, ← (at-set-long2 .before .msr-offset2 .ensures), ← (at-set-long2 .set-long2 .ensures), ← (at-retired .retired .ensures .0), ← (at-retired .retired .ensures .1)) (at-eoi-end .eoi-end .ensures)
 
 returns-5 : tie.Need-returns-5
 unfolding writeMsrBy
@@ -53,6 +55,7 @@ follow-msr-spec =
     (λ c κs. tt)
     (λ c κs. tt)
     (λ c. search needs)
+    (λ c κs. tt)
     (λ c κs. tt)
     (λ c κs. tt)
     (λ c κs. tt)
