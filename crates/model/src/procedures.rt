@@ -58,7 +58,7 @@ pub fn tpr_virtualization(page: &mut [u8], record: Record) -> Outcome
     quiet(record)
 }
 
-// EOI virtualization, its first part: VISR loses SVI, and SVI is the highest vector left there.
+// EOI virtualization up to the new SVI: the VISR bit of the old one cleared, and the highest in VISR.
 pub fn retired(page: &mut [u8], record: Record) -> Record
     ensures { λ r. ⌜ (now (page .exit) ≡ retiredPage (now (page .entry)) «record») × (r ≡ retiredRecord (now (page .entry)) «record») ⌝ }
 {
@@ -68,7 +68,7 @@ pub fn retired(page: &mut [u8], record: Record) -> Record
     next
 }
 
-// EOI virtualization, the rest of it, with the record that has retired the old vector.
+// EOI virtualization from there on: PPR virtualization, then exit 45 by the old SVI, or evaluation.
 pub fn eoi_end(page: &mut [u8], record: Record, old: u8) -> Outcome
     ensures { λ r. ⌜ Leaves (eoiEnd old (now (page .entry)) «record») r (now (page .exit)) ⌝ }
 {

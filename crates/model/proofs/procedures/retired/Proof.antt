@@ -1,5 +1,4 @@
 -- `model::procedures::retired` meets its contract: code and definition clear the same bit and search the same page. Assumes nothing.
-use mathlib.Core.Path.{refl}
 use Rattle.meaning.specs.Procedures.{retiredPage, retiredRecord}
 use borrow.Author.Needs.{needs}
 use Rattle.model.proofs.procedures.retired.Statement.{statement}
