@@ -6,7 +6,8 @@
  *   the record is what the processor itself holds, 48 bytes laid out as struct gg_record below.
  * A processor starts with a page of zeros and the record that gg_fresh writes.
  * gg_step carries out one event on the two and answers; gg_leave takes the guest out for a reason that
- * is no event of the model. The library keeps nothing from one call to the next.
+ * is no event of the model; gg_highest reads a page and tells its highest request or service.
+ * The library keeps nothing from one call to the next.
  * Offsets, vectors, reasons and numbers are those of the project's build scope.
  */
 #ifndef GARLANDGRID_H
@@ -29,7 +30,7 @@ GG_STATIC_ASSERT(__BYTE_ORDER__ == __ORDER_LITTLE_ENDIAN__, "the record and even
 
 /* The major number grows where a promise changes, the minor one where something is added. */
 #define GG_VERSION_MAJOR 1
-#define GG_VERSION_MINOR 0
+#define GG_VERSION_MINOR 1
 
 /* Lengths that the functions accept; any other length is refused. */
 enum {
@@ -103,6 +104,13 @@ enum {
     GG_VM_EXIT = 4,     /* reason, qualification */
     GG_DELIVERED = 5,   /* vector */
     GG_QUIET = 6        /* what was asked is carried out */
+};
+
+/* Answers of gg_highest, three of its own; the comment names what first holds, and second is always 0. */
+enum {
+    GG_HIGHEST_REFUSED = 0, /* refusal: GG_REFUSED_PAGE_LENGTH, or GG_REFUSED_BOUNDS for another base */
+    GG_HIGHEST_VECTOR = 1,  /* the highest set vector, 0 where bit 0 alone is set */
+    GG_HIGHEST_NONE = 2     /* no bit is set */
 };
 
 /* Refusals, in the order in which they are tested; none changes page or record. */
@@ -236,6 +244,17 @@ uint32_t gg_step(uint8_t *page, size_t page_len, uint8_t *record, size_t record_
  */
 uint32_t gg_leave(uint8_t *record, size_t record_len, uint64_t *first, uint64_t *second);
 
+/*
+ * The highest set vector of VIRR (base GG_VIRR) or VISR (base GG_VISR), or none: an empty register and bit 0
+ * alone are told apart, which RVI and SVI, both 0 then, do not do. It returns GG_HIGHEST_REFUSED to
+ * GG_HIGHEST_NONE and reads the page alone, any 4,096 bytes.
+ * Refusals are tested in this order: 1, the page isn't 4,096 bytes long, a null one of length 0 among them;
+ * 2, the base is another.
+ * Both numbers are always written, 0 where the answer names none. first and second are never null, and
+ * neither lies in the page.
+ */
+uint32_t gg_highest(const uint8_t *page, size_t page_len, uint32_t base, uint64_t *first, uint64_t *second);
+
 /* An event of a kind with every other field zero; the constructors below start from it. */
 static inline struct gg_event gg_event_of(uint8_t kind)
 {
@@ -351,6 +370,16 @@ static inline struct gg_answer gg_run_leave(struct gg_record *record)
     answer.first = 0;
     answer.second = 0;
     answer.number = gg_leave((uint8_t *)record, sizeof *record, &answer.first, &answer.second);
+    return answer;
+}
+
+/* gg_highest with the answer and its numbers in one value. */
+static inline struct gg_answer gg_run_highest(const uint8_t *page, size_t page_len, uint32_t base)
+{
+    struct gg_answer answer;
+    answer.first = 0;
+    answer.second = 0;
+    answer.number = gg_highest(page, page_len, base, &answer.first, &answer.second);
     return answer;
 }
 

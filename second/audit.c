@@ -3,13 +3,11 @@
 
 enum { DEEPEST = 15 };
 
+/* The vector that RVI or SVI has to be; an empty register counts as 0. */
 static uint8_t highest_vector(const struct trial *t, uint32_t base)
 {
-    uint8_t highest = 0;
-    for (unsigned vector = 0; vector < 256; vector++)
-        if (gg_vector_is_set(trial_page_of(t), base, (uint8_t)vector))
-            highest = (uint8_t)vector;
-    return highest;
+    int highest = trial_highest(t, base);
+    return highest == TRIAL_NONE ? 0 : (uint8_t)highest;
 }
 
 /* Whether a step is a virtualised EOI; the event's bytes are never changed, so they stand in the trial. */

@@ -75,3 +75,13 @@ unsigned bounds_leave_refusal(const struct cpu *cpu)
         return 2;
     return cpu->mode == 1 || FAULT(LEAVE_IN_ROOT) ? 0 : 3;
 }
+
+unsigned bounds_highest_refusal(size_t page_len, uint32_t base)
+{
+    bool taken = base == VIRR || base == VISR || (FAULT(HIGHEST_OF_180) && base == 0x180);
+    if (FAULT(HIGHEST_BASE_FIRST) && !taken)
+        return 2;
+    if (page_len != PAGE)
+        return 1;
+    return taken ? 0 : 2;
+}

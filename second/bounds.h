@@ -4,8 +4,9 @@
 
 #include "oracle.h"
 
-/* The refusal due before any rule is tried, 0 for none: of an event, and of a leave. */
+/* The refusal due before any rule is tried, 0 for none: of an event, of a leave, of the question. */
 unsigned bounds_refusal(const struct cpu *cpu, size_t page_len, const struct happening *e);
 unsigned bounds_leave_refusal(const struct cpu *cpu);
+unsigned bounds_highest_refusal(size_t page_len, uint32_t base);
 
 #endif

@@ -4,6 +4,7 @@
 #include "matters.h"
 #include "named.h"
 #include "null.h"
+#include "question.h"
 #include "session.h"
 #include "show.h"
 #include "sweep.h"
@@ -15,9 +16,9 @@
 #include <string.h>
 
 enum { OK = 0, DIFFERS = 1, USAGE = 2 };
-enum { SINGLE, JUNK, SESSION, FIRST_SWEEP };
-enum { GATE_SINGLE = 200000, GATE_JUNK = 100000, GATE_SESSION = 200000 };
-enum { LONG_TOTAL = 10000000, LONG_SINGLE = 3000000, LONG_JUNK = 1000000 };
+enum { SINGLE, JUNK, SESSION, HIGHEST, FIRST_SWEEP };
+enum { GATE_SINGLE = 200000, GATE_JUNK = 100000, GATE_SESSION = 200000, GATE_HIGHEST = 100000 };
+enum { LONG_TOTAL = 10000000, LONG_SINGLE = 3000000, LONG_JUNK = 1000000, LONG_HIGHEST = 1000000 };
 
 static struct tally tally;
 static struct pair pair;
@@ -27,8 +28,9 @@ static void help(FILE *to)
 {
     fputs("usage: compare [--seed N] [--fault NAME] COMMAND\n"
           "Runs the proved model and an independent second program on the same steps and\n"
-          "compares answer, record and page after every step, be it an event or a leave.\n\n"
-          "  gate              every sweep, random steps, junk and sessions; the short run\n"
+          "compares answer, record and page after every step, be it an event, a leave or the\n"
+          "question for the highest vector of VIRR or VISR.\n\n"
+          "  gate              every sweep, random steps, questions, junk and sessions; the short run\n"
           "  long              ten million steps, with a table of what they exercise\n"
           "  named             the named bench cases\n"
           "  null              null pointers with length 0\n"
@@ -43,7 +45,7 @@ static void help(FILE *to)
 
 static const char *family_name(unsigned family)
 {
-    static const char *const names[] = {"single", "junk", "session"};
+    static const char *const names[] = {"single", "junk", "session", "highest"};
     return family < FIRST_SWEEP ? names[family] : sweeps[family - FIRST_SWEEP].name;
 }
 
@@ -55,6 +57,8 @@ static void make_case(unsigned family, uint64_t index, struct trial *t)
         generate_single(&r, t);
     else if (family == JUNK)
         generate_junk(&r, t);
+    else if (family == HIGHEST)
+        question_any(&r, t);
     else
         sweeps[family - FIRST_SWEEP].make(&r, index, t);
 }
@@ -64,8 +68,7 @@ static void report(const char *headline, unsigned family, uint64_t index, const 
     printf("%s at %s:%" PRIu64 "\nbefore:\n", headline, family_name(family), index);
     show_trial(before);
     printf("after:\n");
-    show_answer_line("model", &pair.model.answer);
-    show_answer_line("second", &pair.second.answer);
+    show_answers(&pair);
     show_differences(&pair);
     printf("replay with: compare ");
     if (fault_on != FAULT_NONE)
@@ -92,7 +95,7 @@ static bool run_cases(unsigned family, uint64_t count)
         if (!check(family, index, &t))
             return false;
     }
-    printf("%-10s %9" PRIu64 " steps agree\n", family_name(family), count);
+    printf("%-12s %9" PRIu64 " steps agree\n", family_name(family), count);
     return true;
 }
 
@@ -125,7 +128,7 @@ static bool run_sessions(uint64_t count)
         if (!session_step(&s, index))
             return false;
     }
-    printf("%-10s %9" PRIu64 " steps agree, up to %u vectors in service\n", "session", count, tally.deepest);
+    printf("%-12s %9" PRIu64 " steps agree, up to %u vectors in service\n", "session", count, tally.deepest);
     return true;
 }
 
@@ -139,8 +142,8 @@ static bool run_sweeps(void)
 
 static int gate(void)
 {
-    if (!run_cases(SINGLE, GATE_SINGLE) || !run_cases(JUNK, GATE_JUNK) || !run_sessions(GATE_SESSION) ||
-        !run_sweeps())
+    if (!run_cases(SINGLE, GATE_SINGLE) || !run_cases(JUNK, GATE_JUNK) || !run_cases(HIGHEST, GATE_HIGHEST) ||
+        !run_sessions(GATE_SESSION) || !run_sweeps())
         return DIFFERS;
     printf("gate: %" PRIu64 " steps, no difference (seed %" PRIu64 ")\n", tally.steps, seed);
     return OK;
@@ -149,7 +152,7 @@ static int gate(void)
 static int long_run(void)
 {
     if (!run_sweeps() || !run_cases(SINGLE, LONG_SINGLE) || !run_cases(JUNK, LONG_JUNK) ||
-        !run_sessions(LONG_TOTAL - tally.steps))
+        !run_cases(HIGHEST, LONG_HIGHEST) || !run_sessions(LONG_TOTAL - tally.steps))
         return DIFFERS;
     tally_print(&tally);
     unsigned missing = tally_missing(&tally);

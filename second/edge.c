@@ -56,15 +56,21 @@ static void put_cpu(uint8_t *record, const struct cpu *cpu)
     memcpy(record + AT_EXITS, cpu->eoi_exit, EXITS);
 }
 
+/* Hands an outcome's numbers over. */
+static inline uint32_t hand_numbers(struct outcome outcome, uint64_t *first, uint64_t *second)
+{
+    *first = outcome.first;
+    *second = outcome.second;
+    return outcome.answer;
+}
+
 /* Hands an outcome over; only what isn't refused is written back. */
 static inline uint32_t hand_over(struct outcome outcome, const struct cpu *cpu, uint8_t *record,
                                  uint64_t *first, uint64_t *second)
 {
     if (outcome.answer != 0)
         put_cpu(record, cpu);
-    *first = outcome.first;
-    *second = outcome.second;
-    return outcome.answer;
+    return hand_numbers(outcome, first, second);
 }
 
 uint32_t second_step(uint8_t *page, size_t page_len, uint8_t *record, size_t record_len,
@@ -81,6 +87,11 @@ uint32_t second_leave(uint8_t *record, size_t record_len, uint64_t *first, uint6
     struct cpu cpu = edge_cpu(record, record_len);
     struct outcome outcome = oracle_leave(&cpu);
     return hand_over(outcome, &cpu, record, first, second);
+}
+
+uint32_t second_highest(const uint8_t *page, size_t page_len, uint32_t base, uint64_t *first, uint64_t *second)
+{
+    return hand_numbers(oracle_highest(page, page_len, base), first, second);
 }
 
 uint32_t second_fresh(uint8_t *record, size_t record_len)

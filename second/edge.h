@@ -15,6 +15,9 @@ uint32_t second_step(uint8_t *page, size_t page_len, uint8_t *record, size_t rec
 /* Same contract as gg_leave. */
 uint32_t second_leave(uint8_t *record, size_t record_len, uint64_t *first, uint64_t *second);
 
+/* Same contract as gg_highest. */
+uint32_t second_highest(const uint8_t *page, size_t page_len, uint32_t base, uint64_t *first, uint64_t *second);
+
 /* Same contract as gg_fresh. */
 uint32_t second_fresh(uint8_t *record, size_t record_len);
 

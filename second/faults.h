@@ -10,6 +10,7 @@
     X(EOI_NEW_SVI, "eoi-exit-of-new-svi", "an EOI looks at the EOI-exit bit of the new SVI")     \
     X(EOI_EVALUATES, "eoi-exit-evaluates", "evaluation follows an EOI exit")                     \
     X(EOI_KEEPS_BIT, "eoi-keeps-bit", "an EOI leaves the service bit set")                       \
+    X(EOI_KEEPS_SVI, "eoi-keeps-svi", "an EOI keeps SVI where VISR is then empty")               \
     X(EVALUATE_BYTES, "evaluate-whole-bytes", "evaluation compares whole bytes")                 \
     X(EVALUATE_WINDOW, "evaluate-in-window", "evaluation ignores interrupt-window exiting")      \
     X(EXIT_SKIPS_STORE, "exit-56-skips-store", "a write followed by exit 56 isn't stored")       \
@@ -40,6 +41,7 @@
     X(HLT_SHUT, "hlt-is-shut", "a boundary in HLT isn't open")                                   \
     X(MOV_SS_OPEN, "mov-ss-is-open", "blocking by MOV SS doesn't block")                         \
     X(DELIVERY_KEEPS, "delivery-keeps-request", "a delivery leaves the request bit set")         \
+    X(DELIVERY_KEEPS_RVI, "delivery-keeps-rvi", "a delivery keeps RVI where VIRR is then empty") \
     X(DELIVERY_AGAIN, "delivery-stays-recognised", "a delivery leaves recognition on")           \
     X(EXIT_IN_GUEST, "exit-7-in-guest", "exit 7 leaves the processor in guest mode")             \
     X(LEAVE_IN_ROOT, "leave-in-root", "a leave is taken in root mode too")                       \
@@ -47,6 +49,10 @@
     X(LEAVE_RECOGNISED, "leave-keeps-recognition", "a leave keeps recognition on")               \
     X(LEAVE_REQUEST, "leave-drops-rvi", "a leave makes RVI 0")                                   \
     X(LEAVE_BOUNDS, "leave-takes-any-record", "a leave doesn't look at the record's bounds")     \
+    X(NONE_IS_ZERO, "none-is-zero", "the search of an empty register answers vector 0")          \
+    X(ZERO_IS_NONE, "zero-is-none", "the search of a register with bit 0 alone answers none")    \
+    X(HIGHEST_OF_180, "highest-of-180", "the question takes base 180 too")                       \
+    X(HIGHEST_BASE_FIRST, "highest-base-first", "the question tests its base before the page")   \
     X(MODE_FIRST, "mode-before-bounds", "refusal 3 is tested before refusal 2")                  \
     X(PAGE_LAST, "page-length-after-bounds", "refusal 1 is tested after refusal 2")              \
     X(RECORD_RESERVED, "record-reserved-taken", "a record's bytes 12 to 15 may be anything")     \

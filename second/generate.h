@@ -15,6 +15,13 @@
 /* A value of VICR_LO that asks for a self-IPI. */
 enum { SELF_IPI = 0x40000 };
 
+/* Page lengths to hand over: the right one, then wrong ones. */
+enum { PAGE_LENGTHS = 6 };
+extern const uint16_t page_lengths[PAGE_LENGTHS];
+
+/* Gives the page a wrong length. */
+void generate_page_length(struct random *r, struct trial *t);
+
 /* An arbitrary record and page, reachable or not. */
 void generate_state(struct random *r, struct trial *t);
 

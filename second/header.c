@@ -1,8 +1,8 @@
 /* Holds the header to C11 and C++11, compiled once as each: every function is used, nothing is linked. */
 #include "garlandgrid.h"
 
-#if GG_VERSION_MAJOR != 1 || GG_VERSION_MINOR != 0
-#error "the checks of this folder are those of version 1.0"
+#if GG_VERSION_MAJOR != 1 || GG_VERSION_MINOR != 1
+#error "the checks of this folder are those of version 1.1"
 #endif
 
 struct gg_answer header(uint8_t *page, struct gg_record *record, uint32_t choice);
@@ -24,6 +24,11 @@ struct gg_answer header(uint8_t *page, struct gg_record *record, uint32_t choice
     };
     if (gg_word(page, GG_VPPR) == 0 && gg_vector_is_set(page, GG_VISR, 0x60))
         gg_fresh((uint8_t *)record, sizeof *record);
+    struct gg_answer request = gg_run_highest(page, GG_PAGE_LENGTH, GG_VIRR);
+    if (request.number == GG_HIGHEST_REFUSED || (request.number == GG_HIGHEST_VECTOR && request.first == 0))
+        return request;
+    if (gg_highest(page, GG_PAGE_LENGTH, GG_VISR, &request.first, &request.second) == GG_HIGHEST_NONE)
+        record->svi = 0;
     if (record->mode == GG_GUEST && !gg_boundary_matters(record, GG_IF, GG_ACTIVE))
         return gg_run_leave(record);
     return gg_run(page, GG_PAGE_LENGTH, record, &events[choice % (sizeof events / sizeof events[0])]);

@@ -3,10 +3,11 @@
 
 #include <string.h>
 
-static void damage_page_length(struct random *r, struct trial *t)
+const uint16_t page_lengths[PAGE_LENGTHS] = {GG_PAGE_LENGTH, 0, 1, 4095, 4097, PAGE_ROOM};
+
+void generate_page_length(struct random *r, struct trial *t)
 {
-    static const uint16_t lengths[] = {0, 1, 4095, 4097, 8192};
-    trial_set_page_length(t, lengths[random_below(r, 5)]);
+    trial_set_page_length(t, page_lengths[1 + random_below(r, PAGE_LENGTHS - 1)]);
 }
 
 static uint8_t wrong_small_length(struct random *r)
@@ -122,7 +123,7 @@ static void damage_mode_of_event(struct random *r, struct trial *t)
 typedef void damage_function(struct random *r, struct trial *t);
 
 static damage_function *const damages[] = {
-    damage_page_length,     damage_record_length,  damage_event_length,  damage_mode,
+    generate_page_length,   damage_record_length,  damage_event_length,  damage_mode,
     damage_recognised,      damage_record_flags,   damage_kind,          damage_size,
     damage_event_flags,     damage_detail,         damage_number,        damage_value,
     damage_any_record_byte, damage_every_byte,     damage_mode_of_event, damage_record_reserved,

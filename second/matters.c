@@ -38,8 +38,7 @@ static bool check(const struct trial *before, int matters)
         return true;
     printf("difference at a boundary: gg_boundary_matters says %d\n", matters);
     show_trial(before);
-    show_answer_line("model", &pair.model.answer);
-    show_answer_line("second", &pair.second.answer);
+    show_answers(&pair);
     show_changes("model", before, &pair.model.trial);
     show_changes("second program", before, &pair.second.trial);
     return false;

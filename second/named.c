@@ -1,4 +1,4 @@
-/* Named cases; each expected number stands in document 01, those of leave and of the bytes in the header. */
+/* Named cases; each expected number is document 01's; those of leave, question and bytes are the header's. */
 #include "named.h"
 
 #include "edge.h"
@@ -24,14 +24,20 @@ static void write_eoi(struct stage *s)
     stage_step(s, gg_memory_write(GG_VEOI, 4, 0, 0));
 }
 
-/* The events of K1 under the given controls, up to its boundary, whose answer is left to the caller. */
-static void after_k1(struct stage *s, uint32_t controls)
+/* The events of K1 before its boundary, under the given controls. */
+static void before_k1(struct stage *s, uint32_t controls)
 {
     stage_fresh(s);
     stage_step(s, gg_request(0x60));
     expect_quiet(s);
     stage_step(s, gg_entry(controls, 0, NULL));
     expect_quiet(s);
+}
+
+/* The events of K1 up to its boundary, whose answer is left to the caller. */
+static void after_k1(struct stage *s, uint32_t controls)
+{
+    before_k1(s, controls);
     stage_step(s, OPEN_BOUNDARY);
 }
 
@@ -404,6 +410,84 @@ static void reserved(struct stage *s)
     }
 }
 
+/* An empty register is none, also where every byte around its words is FFH. */
+static void highest_of_nothing(struct stage *s)
+{
+    stage_fresh(s);
+    expect_highest_none(s, GG_VIRR);
+    expect_highest_none(s, GG_VISR);
+    memset(trial_page(&s->now), 0xFF, GG_PAGE_LENGTH);
+    for (uint32_t row = 0; row < 8; row++)
+        trial_put_word(&s->now, GG_VIRR + 16 * row, 0);
+    expect_highest_none(s, GG_VIRR);
+    expect_highest(s, GG_VISR, 255);
+}
+
+/* After K12 RVI and SVI are both 0; only the question tells that 0 is requested and nothing in service. */
+static void highest_of_k12(struct stage *s)
+{
+    k12(s);
+    expect_rvi(s, 0);
+    expect_svi(s, 0);
+    expect_highest(s, GG_VIRR, 0);
+    expect_highest_none(s, GG_VISR);
+}
+
+static void highest_of_255(struct stage *s)
+{
+    static const uint32_t bases[] = {GG_VIRR, GG_VISR};
+    for (int i = 0; i < 2; i++) {
+        stage_fresh(s);
+        trial_put_vector(&s->now, bases[i], 255, true);
+        expect_highest(s, bases[i], 255);
+        expect_highest_none(s, bases[1 - i]);
+    }
+}
+
+/* Every bit set, then every bit but 255 of VIRR. */
+static void highest_of_all(struct stage *s)
+{
+    stage_fresh(s);
+    memset(trial_page(&s->now), 0xFF, GG_PAGE_LENGTH);
+    expect_highest(s, GG_VIRR, 255);
+    expect_highest(s, GG_VISR, 255);
+    trial_put_vector(&s->now, GG_VIRR, 255, false);
+    expect_highest(s, GG_VIRR, 254);
+    expect_highest(s, GG_VISR, 255);
+}
+
+/* Another base is refusal 2, another page length refusal 1, and both at once refusal 1. */
+static void highest_refused(struct stage *s)
+{
+    static const uint32_t bases[] = {0, GG_VTPR, GG_VISR + 16, 0x180, GG_VIRR - 1, GG_VIRR + 1, 0x10200};
+    stage_fresh(s);
+    for (size_t i = 0; i < sizeof bases / sizeof bases[0]; i++)
+        expect_highest_refused(s, bases[i], GG_REFUSED_BOUNDS);
+    for (size_t i = 1; i < PAGE_LENGTHS; i++) {
+        trial_set_page_length(&s->now, page_lengths[i]);
+        expect_highest_refused(s, GG_VIRR, GG_REFUSED_PAGE_LENGTH);
+        expect_highest_refused(s, GG_VISR, GG_REFUSED_PAGE_LENGTH);
+        expect_highest_refused(s, 0, GG_REFUSED_PAGE_LENGTH);
+    }
+}
+
+/* K1 under M with an EOI after it: 60 is requested, then in service, then retired. */
+static void highest_in_k1(struct stage *s)
+{
+    before_k1(s, CONTROLS_M);
+    expect_highest(s, GG_VIRR, 0x60);
+    expect_highest_none(s, GG_VISR);
+    stage_step(s, OPEN_BOUNDARY);
+    expect_answer(s, GG_DELIVERED, 0x60, 0);
+    expect_rvi(s, 0);
+    expect_highest_none(s, GG_VIRR);
+    expect_highest(s, GG_VISR, 0x60);
+    write_eoi(s);
+    expect_quiet(s);
+    expect_svi(s, 0);
+    expect_highest_none(s, GG_VISR);
+}
+
 static const struct {
     const char *name;
     void (*play)(struct stage *s);
@@ -437,6 +521,12 @@ static const struct {
     {"LEAVE-IN-ROOT", leave_in_root, "a leave in root mode is refusal 3"},
     {"LEAVE-RESERVED", leave_reserved, "a leave with a reserved byte is refusal 2"},
     {"RESERVED", reserved, "bytes 12 to 15 of a record and of an entry are 0"},
+    {"HIGHEST-NONE", highest_of_nothing, "the highest vector of an empty register is none"},
+    {"HIGHEST-K12", highest_of_k12, "after K12 the highest request is 00 and the highest service none"},
+    {"HIGHEST-255", highest_of_255, "the highest of bit 255 alone is FF"},
+    {"HIGHEST-ALL", highest_of_all, "the highest of every bit is FF, without bit 255 it is FE"},
+    {"HIGHEST-REFUSED", highest_refused, "the question's two refusals and their order"},
+    {"HIGHEST-K1", highest_in_k1, "60 is the highest request before K1's delivery, the highest service after"},
 };
 
 unsigned named_run(void)

@@ -2,6 +2,7 @@
 #include "null.h"
 
 #include "generate.h"
+#include "question.h"
 #include "show.h"
 
 #include <stdio.h>
@@ -26,27 +27,40 @@ static void check(const struct trial *before, uint64_t refusal)
         return;
     printf("difference at a null pointer: refusal %u is due\n", (unsigned)refusal);
     show_trial(before);
-    show_answer_line("model", &pair.model.answer);
-    show_answer_line("second", &pair.second.answer);
+    show_answers(&pair);
     show_differences(&pair);
     failed++;
 }
 
-/* Every choice of null pointers, for one kind of event or for a leave. */
+/* The pointers that a kind's call takes: a leave takes the record alone, the question the page alone. */
+static unsigned taken(unsigned kind)
+{
+    if (kind == KIND_LEAVE)
+        return NULL_RECORD;
+    return kind == KIND_HIGHEST ? NULL_PAGE : NULL_PAGE | NULL_RECORD | NULL_EVENT;
+}
+
+static void set_call(struct random *r, struct trial *t, unsigned kind)
+{
+    struct gg_event event = generate_event(r, kind);
+    trial_set_event(t, &event);
+    if (kind == KIND_LEAVE)
+        t->operation = TRIAL_LEAVE;
+    if (kind == KIND_HIGHEST)
+        trial_set_question(t, random_one_in(r, 2) ? question_wrong_base(r) : question_register(r));
+}
+
+/* Every choice of null pointers, for one kind of event, for a leave or for the question. */
 static void each_choice(struct random *r, unsigned kind)
 {
     static struct trial t;
     for (unsigned nulls = 1; nulls <= (NULL_PAGE | NULL_RECORD | NULL_EVENT); nulls++) {
         generate_state(r, &t);
-        struct gg_event event = generate_event(r, kind);
-        trial_set_event(&t, &event);
+        set_call(r, &t, kind);
         trial_set_nulls(&t, nulls);
-        if (kind != KIND_LEAVE) {
-            check(&t, nulls & NULL_PAGE ? GG_REFUSED_PAGE_LENGTH : GG_REFUSED_BOUNDS);
-        } else if (nulls & NULL_RECORD) {
-            t.operation = TRIAL_LEAVE;
-            check(&t, GG_REFUSED_BOUNDS);
-        }
+        unsigned handed = nulls & taken(kind);
+        if (handed)
+            check(&t, handed & NULL_PAGE ? GG_REFUSED_PAGE_LENGTH : GG_REFUSED_BOUNDS);
     }
 }
 
@@ -65,7 +79,7 @@ unsigned null_run(uint64_t seed)
     calls = failed = 0;
     for (uint64_t state = 0; state < STATES && !failed; state++) {
         struct random r = random_for(seed, FAMILY, state);
-        for (unsigned kind = GG_ENTRY; kind <= KIND_LEAVE; kind++)
+        for (unsigned kind = GG_ENTRY; kind <= KIND_HIGHEST; kind++)
             each_choice(&r, kind);
     }
     fresh("model", &the_model);

@@ -1,4 +1,4 @@
-/* Document 01's rules: the five procedures and the events; and the leave, as the header states it. */
+/* Document 01's rules: the five procedures and the events; the leave and the question are the header's. */
 #include "oracle.h"
 
 #include "bounds.h"
@@ -48,6 +48,21 @@ static bool on(const struct apic *a, unsigned bit)
     return in(a->cpu->controls, bit);
 }
 
+/* The search behind RVI, SVI and the question; its faults show in the question only: none counts as 0. */
+static inline int search(const uint8_t *page, unsigned base)
+{
+    int found = highest(page, base);
+    if (FAULT(NONE_IS_ZERO) && found == NO_VECTOR)
+        return 0;
+    return FAULT(ZERO_IS_NONE) && found == 0 ? NO_VECTOR : found;
+}
+
+/* "The highest set vector of an empty register counts as 0": the one place where none becomes a number. */
+static inline unsigned or_zero(int found)
+{
+    return found == NO_VECTOR ? 0 : (unsigned)found;
+}
+
 /* PPR virtualization. */
 static void set_ppr(struct apic *a)
 {
@@ -87,7 +102,9 @@ static struct outcome eoi(struct apic *a)
     unsigned old = a->cpu->svi;
     if (!FAULT(EOI_KEEPS_BIT))
         put_vector(a->page, VISR, old, false);
-    a->cpu->svi = highest(a->page, VISR);
+    int left = search(a->page, VISR);
+    if (!(FAULT(EOI_KEEPS_SVI) && left == NO_VECTOR))
+        a->cpu->svi = or_zero(left);
     set_ppr(a);
     unsigned asked = FAULT(EOI_NEW_SVI) ? a->cpu->svi : old;
     bool leaves = a->cpu->eoi_exit[asked / 8] >> asked % 8 & 1;
@@ -312,7 +329,9 @@ static struct outcome deliver(struct apic *a)
     store_word(a->page + VPPR, vector & 0xF0);
     if (!FAULT(DELIVERY_KEEPS))
         put_vector(a->page, VIRR, vector, false);
-    a->cpu->rvi = highest(a->page, VIRR);
+    int left = search(a->page, VIRR);
+    if (!(FAULT(DELIVERY_KEEPS_RVI) && left == NO_VECTOR))
+        a->cpu->rvi = or_zero(left);
     a->cpu->recognised = FAULT(DELIVERY_AGAIN) ? 1 : 0;
     return answer(DELIVERED, vector, 0);
 }
@@ -371,4 +390,13 @@ struct outcome oracle_leave(struct cpu *cpu)
     if (FAULT(LEAVE_REQUEST))
         cpu->rvi = 0;
     return quiet();
+}
+
+struct outcome oracle_highest(const uint8_t *page, size_t page_len, uint32_t base)
+{
+    unsigned refused = bounds_highest_refusal(page_len, base);
+    if (refused)
+        return answer(HIGHEST_REFUSED, refused, 0);
+    int found = search(page, base);
+    return found == NO_VECTOR ? answer(HIGHEST_NONE, 0, 0) : answer(HIGHEST_VECTOR, (uint64_t)found, 0);
 }

@@ -1,4 +1,4 @@
-/* The second program: document 01's rules and the header's leave, written on their own from their sentences. */
+/* The second program: document 01's rules, the header's leave and question, each from its own sentences. */
 #ifndef ORACLE_H
 #define ORACLE_H
 
@@ -42,5 +42,8 @@ struct outcome oracle_step(struct cpu *cpu, uint8_t *page, size_t page_len, cons
 
 /* The guest leaves for a reason that is no event. */
 struct outcome oracle_leave(struct cpu *cpu);
+
+/* The question: the highest set vector of the register at base, or none. */
+struct outcome oracle_highest(const uint8_t *page, size_t page_len, uint32_t base);
 
 #endif

@@ -45,28 +45,31 @@ static inline void put_vector(uint8_t *page, unsigned base, unsigned vector, boo
     *byte = (uint8_t)(value ? *byte | bit : *byte & ~bit);
 }
 
+/* What the search answers for an empty register, which is no vector. */
+enum { NO_VECTOR = -1 };
+
 #ifdef SCAN_WORDS
-/* The highest set vector, 0 for an empty register; word by word, for timing only. */
-static inline unsigned highest(const uint8_t *page, unsigned base)
+/* The highest set vector or NO_VECTOR; word by word, for timing only. */
+static inline int highest(const uint8_t *page, unsigned base)
 {
     for (unsigned row = 8; row-- > 0;) {
         uint32_t word = load_word(page + base + 16 * row);
         if (word)
-            return 32 * row + 31 - (unsigned)__builtin_clz(word);
+            return (int)(32 * row + 31 - (unsigned)__builtin_clz(word));
     }
-    return 0;
+    return NO_VECTOR;
 }
 #else
-/* The highest set vector, 0 for an empty register; bit by bit from the top. */
-static inline unsigned highest(const uint8_t *page, unsigned base)
+/* The highest set vector or NO_VECTOR; bit by bit from the top. */
+static inline int highest(const uint8_t *page, unsigned base)
 {
     for (unsigned row = 8; row-- > 0;) {
         uint32_t word = load_word(page + base + 16 * row);
         for (unsigned bit = 32; bit-- > 0;)
             if (word >> bit & 1)
-                return 32 * row + bit;
+                return (int)(32 * row + bit);
     }
-    return 0;
+    return NO_VECTOR;
 }
 #endif
 

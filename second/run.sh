@@ -69,6 +69,7 @@ for fault in $(faults); do
     expect 1 "fault-$fault" find_fault "$fault" gate
 done
 expect 1 null-fault-page-length-after-bounds find_fault page-length-after-bounds null
+expect 1 null-fault-highest-base-first find_fault highest-base-first null
 expect 1 matters-fault-hlt-is-shut find_fault hlt-is-shut matters
 expect 1 matters-fault-mov-ss-is-open find_fault mov-ss-is-open matters
 expect 0 build-bench build_bench "$archive"

@@ -2,14 +2,15 @@
 #include "session.h"
 
 #include "generate.h"
+#include "question.h"
 
 #include <string.h>
 
 /* A session climbs for this many steps, then falls for as many. */
 enum { PHASE = 64 };
 
-/* One step in so many is a leave, which root mode refuses. */
-enum { LEAVES = 24 };
+/* One step in so many is a leave, which root mode refuses, or the question, which changes nothing. */
+enum { LEAVES = 24, QUESTIONS = 16 };
 
 void session_start(struct session *s, uint64_t number)
 {
@@ -130,6 +131,8 @@ void session_choose(struct random *r, struct session *s)
         spoil(r, s, &event);
     trial_set_event(&s->now, &event);
     s->now.operation = random_one_in(r, LEAVES) ? TRIAL_LEAVE : TRIAL_STEP;
+    if (random_one_in(r, QUESTIONS))
+        trial_set_question(&s->now, question_register(r));
 }
 
 const char *session_advance(struct session *s, const struct side *side)

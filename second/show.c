@@ -11,7 +11,7 @@ const char *show_kind(unsigned kind)
 {
     static const char *const names[KINDS] = {"unknown", "entry",    "memory read", "memory write",
                                              "to CR8",  "from CR8", "RDMSR",       "WRMSR",
-                                             "boundary", "request", "leave"};
+                                             "boundary", "request", "leave",       "highest"};
     return names[kind];
 }
 
@@ -20,6 +20,12 @@ const char *show_answer(unsigned number)
     static const char *const names[] = {"refused", "redirected", "passthrough", "fault",
                                         "VM exit", "delivered",  "quiet"};
     return number < COUNT(names) ? names[number] : "no answer of document 01";
+}
+
+const char *show_highest_answer(unsigned number)
+{
+    static const char *const names[] = {"refused", "vector", "none"};
+    return number < COUNT(names) ? names[number] : "no answer of the question";
 }
 
 const char *show_reason(unsigned reason)
@@ -61,14 +67,29 @@ static void show_controls(uint32_t flags)
     printf("%s )", flags & ~GG_ALL_CONTROLS ? " and stray bits" : "");
 }
 
+/* A register's highest vector in words: none where it is empty, 00H where bit 0 alone is set. */
+static void show_highest(const char *lead, const struct trial *t, uint32_t base)
+{
+    int highest = trial_highest(t, base);
+    if (highest == TRIAL_NONE)
+        printf("%s none", lead);
+    else
+        printf("%s %02XH", lead, (unsigned)highest);
+}
+
+/* A register's vectors, none where it is empty; of more than 40 their number and the highest. */
 static void show_vectors(const char *name, const struct trial *t, uint32_t base)
 {
-    printf("  %s:", name);
     unsigned set = trial_count(t, base);
+    printf("  %s:", name);
     for (unsigned vector = 0; vector < 256 && set <= 40; vector++)
         if (gg_vector_is_set(trial_page_of(t), base, (uint8_t)vector))
-            printf(" %02X", vector);
-    printf(set <= 40 ? "\n" : " %u vectors\n", set);
+            printf(" %02XH", vector);
+    if (set > 40)
+        printf(" %u vectors, highest", set);
+    if (set > 40 || set == 0)
+        show_highest("", t, base);
+    printf("\n");
 }
 
 static void show_record(const struct trial *t)
@@ -82,9 +103,19 @@ static void show_record(const struct trial *t)
     show_bytes("EOI exits", t->record_bytes + GUARD + offsetof(struct gg_record, eoi_exit), 32);
 }
 
+static void show_question(const struct trial *t)
+{
+    const char *name = t->base == GG_VIRR ? "VIRR" : t->base == GG_VISR ? "VISR" : "another register";
+    printf("  question: highest vector of %s, base %03" PRIX64 "H; the page alone is read\n", name, t->base);
+}
+
 static void show_event(const struct trial *t)
 {
     struct gg_event event = trial_event(t);
+    if (t->operation == TRIAL_HIGHEST) {
+        show_question(t);
+        return;
+    }
     if (t->operation == TRIAL_LEAVE) {
         printf("  the guest leaves: no page and no event are handed over\n");
         return;
@@ -124,12 +155,29 @@ void show_trial(const struct trial *t)
     show_event(t);
 }
 
-void show_answer_line(const char *who, const struct gg_answer *answer)
+/* An answer in words; the question's refusal is told with its number and its vector in two digits. */
+static void show_words(unsigned kind, const struct gg_answer *answer)
 {
-    printf("  %-6s answers %" PRIu32 " %s, first %" PRIu64 " (%" PRIX64 "H), second %" PRIu64 " (%" PRIX64
-           "H)\n",
-           who, answer->number, show_answer(answer->number), answer->first, answer->first, answer->second,
-           answer->second);
+    printf("%s", kind == KIND_HIGHEST ? show_highest_answer(answer->number) : show_answer(answer->number));
+    if (kind == KIND_HIGHEST && answer->number == GG_HIGHEST_REFUSED)
+        printf(" by %" PRIu64, answer->first);
+    if (kind == KIND_HIGHEST && answer->number == GG_HIGHEST_VECTOR)
+        printf(" %02" PRIX64 "H", answer->first);
+}
+
+static void show_answer_line(const char *who, const struct side *side)
+{
+    const struct gg_answer *answer = &side->answer;
+    printf("  %-6s answers %" PRIu32 " ", who, answer->number);
+    show_words(trial_kind(&side->trial), answer);
+    printf(", first %" PRIu64 " (%" PRIX64 "H), second %" PRIu64 " (%" PRIX64 "H)\n", answer->first,
+           answer->first, answer->second, answer->second);
+}
+
+void show_answers(const struct pair *pair)
+{
+    show_answer_line("model", &pair->model);
+    show_answer_line("second", &pair->second);
 }
 
 void show_page(const struct trial *t)
@@ -171,10 +219,23 @@ void show_changes(const char *who, const struct trial *before, const struct tria
     show_two(before, after);
 }
 
+/* Says what each side's highest vector of a register is where they differ. */
+static void show_unequal_highest(const char *name, const struct pair *pair, uint32_t base)
+{
+    if (trial_highest(&pair->model.trial, base) == trial_highest(&pair->second.trial, base))
+        return;
+    printf("  highest %s:", name);
+    show_highest(" model", &pair->model.trial, base);
+    show_highest(" | second", &pair->second.trial, base);
+    printf("\n");
+}
+
 void show_differences(const struct pair *pair)
 {
     printf(pair_same(pair) ? "the two agree\n" : "the two differ in (model | second):\n");
     if (!answer_same(&pair->model.answer, &pair->second.answer))
         printf("  the answer\n");
+    show_unequal_highest("request", pair, GG_VIRR);
+    show_unequal_highest("service", pair, GG_VISR);
     show_two(&pair->model.trial, &pair->second.trial);
 }

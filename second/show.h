@@ -6,10 +6,13 @@
 
 const char *show_kind(unsigned kind);
 const char *show_answer(unsigned number);
+const char *show_highest_answer(unsigned number);
 const char *show_reason(unsigned reason);
 
 void show_trial(const struct trial *t);
-void show_answer_line(const char *who, const struct gg_answer *answer);
+
+/* The answers of both sides, the question's in its own words. */
+void show_answers(const struct pair *pair);
 
 /* Every byte of the page that isn't zero, in rows of sixteen. */
 void show_page(const struct trial *t);

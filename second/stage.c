@@ -61,8 +61,7 @@ static void play(struct stage *s)
     pair_run(&s->pair, &s->now);
     if (!pair_same(&s->pair)) {
         printf("  %s: model and second program differ\n", s->name);
-        show_answer_line("model", &s->pair.model.answer);
-        show_answer_line("second", &s->pair.second.answer);
+        show_answers(&s->pair);
         show_differences(&s->pair);
         s->failures++;
     }
@@ -102,6 +101,32 @@ void expect_answer(struct stage *s, uint32_t number, uint64_t first, uint64_t se
 void expect_quiet(struct stage *s)
 {
     expect_answer(s, GG_QUIET, 0, 0);
+}
+
+/* Asks a question whose answer is given; it leaves page and record. */
+static void expect_asked(struct stage *s, uint32_t base, uint32_t number, uint64_t first)
+{
+    struct trial kept = s->now;
+    trial_set_question(&s->now, base);
+    play(s);
+    expect_answer(s, number, first, 0);
+    expect_page(s, &kept);
+    expect_record(s, &kept);
+}
+
+void expect_highest(struct stage *s, uint32_t base, uint8_t vector)
+{
+    expect_asked(s, base, GG_HIGHEST_VECTOR, vector);
+}
+
+void expect_highest_none(struct stage *s, uint32_t base)
+{
+    expect_asked(s, base, GG_HIGHEST_NONE, 0);
+}
+
+void expect_highest_refused(struct stage *s, uint32_t base, uint64_t refusal)
+{
+    expect_asked(s, base, GG_HIGHEST_REFUSED, refusal);
 }
 
 void expect_word(struct stage *s, uint32_t offset, uint32_t value)

@@ -35,6 +35,11 @@ void expect_recognised(struct stage *s, uint8_t recognised);
 void expect_mode(struct stage *s, uint8_t mode);
 void expect_true(struct stage *s, int truth, const char *what);
 
+/* Asks both programs for a register's highest vector, which has to be this one, none, or refused. */
+void expect_highest(struct stage *s, uint32_t base, uint8_t vector);
+void expect_highest_none(struct stage *s, uint32_t base);
+void expect_highest_refused(struct stage *s, uint32_t base, uint64_t refusal);
+
 /* The page, or the record, has to be that of a state kept before. */
 void expect_page(struct stage *s, const struct trial *kept);
 void expect_record(struct stage *s, const struct trial *kept);

@@ -2,18 +2,11 @@
 #include "sweep.h"
 
 #include "generate.h"
+#include "question.h"
 
 #include <string.h>
 
 #define COUNT(array) (sizeof(array) / sizeof((array)[0]))
-
-/* Takes the lowest digit off an index. */
-static uint32_t digit(uint64_t *index, uint32_t bound)
-{
-    uint32_t value = (uint32_t)(*index % bound);
-    *index /= bound;
-    return value;
-}
 
 /* Controls of a set, each turned on or off by a digit of its own. */
 static uint32_t choices(uint64_t *index, uint32_t set)
@@ -23,12 +16,6 @@ static uint32_t choices(uint64_t *index, uint32_t set)
         if ((set & control) && digit(index, 2))
             chosen |= control;
     return chosen;
-}
-
-/* A word with one bit set, or with none. */
-static uint32_t one_bit(uint64_t *index)
-{
-    return (uint32_t)(UINT64_C(1) << digit(index, 33));
 }
 
 /* Vectors in both registers, RVI and SVI at their highest, a task priority below. */
@@ -270,7 +257,6 @@ static void sweep_priority(struct random *r, uint64_t index, struct trial *t)
     trial_set_event(t, &event);
 }
 
-static const uint16_t page_lengths[] = {4096, 0, 1, 4095, 4097, 8192};
 static const uint8_t small_lengths[] = {48, 0, 47, 49, 64};
 static const uint8_t truths[] = {0, 1, 2, 255};
 static const struct {
@@ -278,14 +264,14 @@ static const struct {
     uint8_t reserved_zero[4];
 } strays[] = {{0, {0}}, {UINT32_C(1) << 9, {0}}, {UINT32_C(1) << 31, {0}}, {0, {1}}, {0, {0, 0, 0, 0x80}}};
 
-enum { REFUSAL_CASES = 6 * 5 * 5 * 4 * 4 * COUNT(strays) * 12 };
+enum { REFUSAL_CASES = PAGE_LENGTHS * 5 * 5 * 4 * 4 * COUNT(strays) * 12 };
 
 /* Every pair of reasons to refuse, so that their order shows. */
 static void sweep_refusal(struct random *r, uint64_t index, struct trial *t)
 {
     generate_state(r, t);
     struct gg_record record = trial_record(t);
-    trial_set_page_length(t, page_lengths[digit(&index, 6)]);
+    trial_set_page_length(t, page_lengths[digit(&index, PAGE_LENGTHS)]);
     t->record_len = small_lengths[digit(&index, 5)];
     t->event_len = small_lengths[digit(&index, 5)];
     record.mode = truths[digit(&index, 4)];
@@ -366,5 +352,8 @@ const struct sweep sweeps[] = {
     {"boundary", BOUNDARY_CASES, sweep_boundary}, {"entry", ENTRY_CASES, sweep_entry},
     {"priority", PRIORITY_CASES, sweep_priority}, {"refusal", REFUSAL_CASES, sweep_refusal},
     {"field", FIELD_CASES, sweep_field},          {"reserved", RESERVED_CASES, sweep_reserved},
-    {"leave", LEAVE_CASES, sweep_leave},          {NULL, 0, NULL},
+    {"leave", LEAVE_CASES, sweep_leave},          {"highest-bit", QUESTION_BITS, question_bit},
+    {"highest-pair", QUESTION_PAIRS, question_pair},
+    {"highest-base", QUESTION_BASES, question_base},
+    {NULL, 0, NULL},
 };

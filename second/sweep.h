@@ -12,6 +12,20 @@ struct sweep {
     void (*make)(struct random *r, uint64_t index, struct trial *t);
 };
 
+/* Takes the lowest digit off an index. */
+static inline uint32_t digit(uint64_t *index, uint32_t bound)
+{
+    uint32_t value = (uint32_t)(*index % bound);
+    *index /= bound;
+    return value;
+}
+
+/* A word with one bit set, or with none, by a digit of 33. */
+static inline uint32_t one_bit(uint64_t *index)
+{
+    return (uint32_t)(UINT64_C(1) << digit(index, 33));
+}
+
 /* The sweeps, ended by one without a name. */
 extern const struct sweep sweeps[];
 

@@ -1,4 +1,4 @@
-/* Counts of kinds, answers, exits, refusals and checks. */
+/* Counts of kinds, answers, exits, refusals and checks, and of the question's own answers. */
 #include "tally.h"
 
 #include "show.h"
@@ -15,7 +15,7 @@ static const unsigned exit_reasons[] = {
 };
 
 /* The answers that each kind can have. */
-static const unsigned possible[KINDS] = {
+static const unsigned possible[ANSWERED_KINDS] = {
     [KIND_UNKNOWN] = BIT(GG_REFUSED),
     [GG_ENTRY] = BIT(GG_REFUSED) | BIT(GG_VM_EXIT) | BIT(GG_QUIET),
     [GG_MEMORY_READ] = BIT(GG_REFUSED) | BIT(GG_REDIRECTED) | BIT(GG_PASSTHROUGH) | BIT(GG_VM_EXIT),
@@ -29,11 +29,15 @@ static const unsigned possible[KINDS] = {
     [KIND_LEAVE] = BIT(GG_REFUSED) | BIT(GG_QUIET),
 };
 
-void tally_add(struct tally *tally, const struct trial *before, const struct gg_answer *answer)
+static void add_question(struct tally *tally, const struct gg_answer *answer)
 {
-    unsigned kind = trial_kind(before);
-    tally->steps++;
-    tally->kinds[kind]++;
+    tally->highest[answer->number % HIGHEST_ANSWERS]++;
+    if (answer->number == GG_HIGHEST_REFUSED)
+        tally->highest_refusals[answer->first % HIGHEST_REFUSALS]++;
+}
+
+static void add_answer(struct tally *tally, unsigned kind, const struct gg_answer *answer)
+{
     tally->answers[answer->number % ANSWERS]++;
     tally->cells[kind][answer->number % ANSWERS]++;
     if (answer->number == GG_VM_EXIT)
@@ -44,12 +48,23 @@ void tally_add(struct tally *tally, const struct trial *before, const struct gg_
         tally->checks[answer->second % CHECKS]++;
 }
 
+void tally_add(struct tally *tally, const struct trial *before, const struct gg_answer *answer)
+{
+    unsigned kind = trial_kind(before);
+    tally->steps++;
+    tally->kinds[kind]++;
+    if (kind == KIND_HIGHEST)
+        add_question(tally, answer);
+    else
+        add_answer(tally, kind, answer);
+}
+
 static void print_cells(const struct tally *tally)
 {
     printf("kind by answer (- is impossible):\n  %-13s", "");
     for (unsigned number = 0; number < ANSWERS; number++)
         printf("%12s", show_answer(number));
-    for (unsigned kind = 0; kind < KINDS; kind++) {
+    for (unsigned kind = 0; kind < ANSWERED_KINDS; kind++) {
         printf("\n  %-13s", show_kind(kind));
         for (unsigned number = 0; number < ANSWERS; number++)
             if (possible[kind] & BIT(number))
@@ -58,6 +73,16 @@ static void print_cells(const struct tally *tally)
                 printf("%12s", "-");
     }
     printf("\n");
+}
+
+static void print_question(const struct tally *tally)
+{
+    printf("the question's answers:\n");
+    for (unsigned number = 0; number < HIGHEST_ANSWERS; number++)
+        printf("  %-24s %12" PRIu64 "\n", show_highest_answer(number), tally->highest[number]);
+    printf("the question's refusals:\n");
+    for (unsigned refusal = 1; refusal < HIGHEST_REFUSALS; refusal++)
+        printf("  %-24u %12" PRIu64 "\n", refusal, tally->highest_refusals[refusal]);
 }
 
 void tally_print(const struct tally *tally)
@@ -79,6 +104,7 @@ void tally_print(const struct tally *tally)
     for (unsigned check = 1; check < CHECKS; check++)
         printf("  %-24u %12" PRIu64 "\n", check, tally->checks[check]);
     print_cells(tally);
+    print_question(tally);
     printf("most vectors in service in a session: %u\n", tally->deepest);
 }
 
@@ -100,18 +126,28 @@ static unsigned missing_number(uint64_t count, const char *table, unsigned numbe
 static unsigned missing_cells(const struct tally *tally)
 {
     unsigned found = 0;
-    for (unsigned kind = 0; kind < KINDS; kind++) {
-        found += missing(tally->kinds[kind], "kind", show_kind(kind));
+    for (unsigned kind = 0; kind < ANSWERED_KINDS; kind++)
         for (unsigned number = 0; number < ANSWERS; number++)
             if (possible[kind] & BIT(number))
                 found += missing(tally->cells[kind][number], show_kind(kind), show_answer(number));
-    }
+    return found;
+}
+
+static unsigned missing_question(const struct tally *tally)
+{
+    unsigned found = 0;
+    for (unsigned number = 0; number < HIGHEST_ANSWERS; number++)
+        found += missing(tally->highest[number], "the question's answer", show_highest_answer(number));
+    for (unsigned refusal = 1; refusal < HIGHEST_REFUSALS; refusal++)
+        found += missing_number(tally->highest_refusals[refusal], "the question's refusal", refusal);
     return found;
 }
 
 unsigned tally_missing(const struct tally *tally)
 {
-    unsigned found = missing_cells(tally);
+    unsigned found = missing_cells(tally) + missing_question(tally);
+    for (unsigned kind = 0; kind < KINDS; kind++)
+        found += missing(tally->kinds[kind], "kind", show_kind(kind));
     for (unsigned number = 0; number < ANSWERS; number++)
         found += missing(tally->answers[number], "answer", show_answer(number));
     for (size_t i = 0; i < COUNT(exit_reasons); i++)

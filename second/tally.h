@@ -6,6 +6,9 @@
 
 enum { ANSWERS = 7, REASONS = 64, REFUSALS = 5, CHECKS = 5 };
 
+/* The kinds that have document 01's answers; the question, the last kind, has three of its own. */
+enum { ANSWERED_KINDS = KIND_HIGHEST, HIGHEST_ANSWERS = 3, HIGHEST_REFUSALS = 3 };
+
 struct tally {
     uint64_t steps;
     uint64_t kinds[KINDS];
@@ -13,8 +16,10 @@ struct tally {
     uint64_t reasons[REASONS];
     uint64_t refusals[REFUSALS];
     uint64_t checks[CHECKS];
-    uint64_t cells[KINDS][ANSWERS]; /* kind against answer */
-    unsigned deepest;               /* most vectors in service in a session */
+    uint64_t cells[ANSWERED_KINDS][ANSWERS]; /* kind against answer */
+    uint64_t highest[HIGHEST_ANSWERS];       /* the question's own answers */
+    uint64_t highest_refusals[HIGHEST_REFUSALS];
+    unsigned deepest; /* most vectors in service in a session */
 };
 
 void tally_add(struct tally *tally, const struct trial *before, const struct gg_answer *answer);

@@ -1,4 +1,4 @@
-/* Document 01's offsets, control bits and answers, and the kinds of event that the header numbers. */
+/* Document 01's offsets, control bits and answers; the header's kinds of event and answers of the question. */
 #ifndef TERMS_H
 #define TERMS_H
 
@@ -8,10 +8,11 @@
 enum { PAGE = 4096 };
 enum { VTPR = 0x080, VPPR = 0x0A0, VEOI = 0x0B0, VISR = 0x100, VIRR = 0x200 };
 enum { ICR_LOW = 0x300, ICR_HIGH = 0x310 };
-/* Control bit numbers and answers are document 01's; kinds are the header's. */
+/* Control bit numbers and answers are document 01's; kinds and the question's own answers are the header's. */
 enum { SHADOW, ACCESSES, X2APIC, REGISTERS, DELIVERY, EXTERNAL, WINDOW, CR8_LOAD, CR8_STORE, CONTROLS };
 enum { ENTRY = 1, READ, WRITE, TO_CR8, FROM_CR8, RDMSR, WRMSR, BOUNDARY, REQUEST };
 enum { REFUSED, REDIRECTED, PASSTHROUGH, FAULTED, EXITED, DELIVERED, QUIET };
+enum { HIGHEST_REFUSED, HIGHEST_VECTOR, HIGHEST_NONE };
 enum { FETCH = 1, ALREADY = 2 };
 enum { MSR_TPR = 0x808, MSR_EOI = 0x80B, MSR_SELF_IPI = 0x83F };
 

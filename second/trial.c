@@ -20,6 +20,7 @@ void trial_fresh(struct trial *t)
     memset(t->event_bytes + GUARD, 0, GG_EVENT_LENGTH);
     t->operation = TRIAL_STEP;
     t->nulls = 0;
+    t->base = 0;
     t->page_len = GG_PAGE_LENGTH;
     t->record_len = GG_RECORD_LENGTH;
     t->event_len = GG_EVENT_LENGTH;
@@ -43,11 +44,19 @@ void trial_set_nulls(struct trial *t, unsigned nulls)
         t->event_len = 0;
 }
 
+void trial_set_question(struct trial *t, uint32_t base)
+{
+    t->operation = TRIAL_HIGHEST;
+    t->base = base;
+}
+
 unsigned trial_kind(const struct trial *t)
 {
     uint8_t kind = t->event_bytes[GUARD];
     if (t->operation == TRIAL_LEAVE)
         return KIND_LEAVE;
+    if (t->operation == TRIAL_HIGHEST)
+        return KIND_HIGHEST;
     return kind <= GG_REQUEST ? kind : KIND_UNKNOWN;
 }
 
@@ -128,8 +137,16 @@ unsigned trial_count(const struct trial *t, uint32_t base)
     return count;
 }
 
-const struct program the_model = {gg_step, gg_leave, gg_fresh};
-const struct program the_second = {second_step, second_leave, second_fresh};
+int trial_highest(const struct trial *t, uint32_t base)
+{
+    for (int vector = 255; vector >= 0; vector--)
+        if (gg_vector_is_set(trial_page_of(t), base, (uint8_t)vector))
+            return vector;
+    return TRIAL_NONE;
+}
+
+const struct program the_model = {gg_step, gg_leave, gg_highest, gg_fresh};
+const struct program the_second = {second_step, second_leave, second_highest, second_fresh};
 
 static uint32_t ask(const struct program *program, struct trial *t, struct gg_answer *answer)
 {
@@ -138,6 +155,8 @@ static uint32_t ask(const struct program *program, struct trial *t, struct gg_an
     const uint8_t *event = t->nulls & NULL_EVENT ? NULL : t->event_bytes + GUARD;
     if (t->operation == TRIAL_LEAVE)
         return program->leave(record, t->record_len, &answer->first, &answer->second);
+    if (t->operation == TRIAL_HIGHEST)
+        return program->highest(page, t->page_len, (uint32_t)t->base, &answer->first, &answer->second);
     return program->step(page, t->page_len, record, t->record_len, event, t->event_len, &answer->first,
                          &answer->second);
 }

@@ -9,18 +9,22 @@
 /* Guard bytes around a slice show a write outside it; the odd lead puts slices at odd addresses. */
 enum { GUARD = 33, TAIL = 31, PAGE_ROOM = 8192, SMALL_ROOM = 64 };
 
-/* What is asked of a program: to carry out the event, or to let the guest leave. */
-enum { TRIAL_STEP, TRIAL_LEAVE };
+/* What is asked of a program: to carry out the event, to let the guest leave, to tell a highest vector. */
+enum { TRIAL_STEP, TRIAL_LEAVE, TRIAL_HIGHEST };
 
 /* Which of page, record and event are null, as bits. */
 enum { NULL_PAGE = 1, NULL_RECORD = 2, NULL_EVENT = 4 };
 
-/* What a trial counts as: its event's kind, a kind that is none, or a leave, which has no event. */
-enum { KIND_UNKNOWN = 0, KIND_LEAVE = GG_REQUEST + 1, KINDS };
+/* What a trial counts as: its event's kind, a kind that is none, or a leave or question, which has no event. */
+enum { KIND_UNKNOWN = 0, KIND_LEAVE = GG_REQUEST + 1, KIND_HIGHEST, KINDS };
+
+/* What trial_highest says of an empty register. */
+enum { TRIAL_NONE = -1 };
 
 /* Page, record and event bytes with the lengths that are handed over; the page stands last. */
 struct trial {
     uint64_t operation, nulls;
+    uint64_t base; /* of the register that a question is about */
     size_t page_len, record_len, event_len;
     uint8_t record_bytes[GUARD + SMALL_ROOM + TAIL];
     uint8_t event_bytes[GUARD + SMALL_ROOM + TAIL];
@@ -42,6 +46,7 @@ struct program {
     uint32_t (*step)(uint8_t *page, size_t page_len, uint8_t *record, size_t record_len,
                      const uint8_t *event, size_t event_len, uint64_t *first, uint64_t *second);
     uint32_t (*leave)(uint8_t *record, size_t record_len, uint64_t *first, uint64_t *second);
+    uint32_t (*highest)(const uint8_t *page, size_t page_len, uint32_t base, uint64_t *first, uint64_t *second);
     uint32_t (*fresh)(uint8_t *record, size_t record_len);
 };
 
@@ -66,7 +71,10 @@ void trial_set_page_length(struct trial *t, size_t page_len);
 /* Makes some of page, record and event null, with length 0. */
 void trial_set_nulls(struct trial *t, unsigned nulls);
 
-/* KIND_UNKNOWN, GG_ENTRY to GG_REQUEST, or KIND_LEAVE. */
+/* Makes a trial the question for the highest vector of the register at a base. */
+void trial_set_question(struct trial *t, uint32_t base);
+
+/* KIND_UNKNOWN, GG_ENTRY to GG_REQUEST, KIND_LEAVE or KIND_HIGHEST. */
 unsigned trial_kind(const struct trial *t);
 
 /* The bytes of page_bytes that are in use, guards included. */
@@ -85,8 +93,9 @@ void trial_set_event(struct trial *t, const struct gg_event *event);
 void trial_put_vector(struct trial *t, uint32_t base, uint32_t vector, bool value);
 void trial_put_word(struct trial *t, uint32_t offset, uint32_t value);
 
-/* The number of vectors set in VISR or VIRR. */
+/* The number of vectors set in VISR or VIRR, and the highest of them or TRIAL_NONE. */
 unsigned trial_count(const struct trial *t, uint32_t base);
+int trial_highest(const struct trial *t, uint32_t base);
 
 /* Runs both programs on copies of a trial. */
 void pair_run(struct pair *pair, const struct trial *before);

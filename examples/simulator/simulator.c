@@ -3,6 +3,8 @@
  * leaves the guest without the model, and is nested over by a frame-end interrupt; all are retired.
  * Then a driver made from an outdated register map sends the same wake-up call with bit 13 set,
  * and the hypervisor gets it instead.
+ * Last, a second sensor raises a line whose table entry nobody has programmed: vector 00H is requested,
+ * RVI stays 00H, and only the question for the highest request tells that from no request at all.
  */
 #include "garlandgrid.h"
 
@@ -13,6 +15,7 @@ enum {
     WAKE_UP = 0x61,        /* the tuner's wake-up call; its handler arms black level clamp */
     FRAME_END = 0x82,      /* the sensor's frame end, of a higher class */
     STATISTICS = 0x68,     /* of the wake-up call's own class, so it has to wait */
+    UNPROGRAMMED = 0x00,   /* what a line table entry says that nobody has programmed */
     TO_SELF = 0x00040000,  /* VICR_LO: fixed, edge, shorthand "self" */
     STALE_BIT = 0x00002000 /* bit 13, spare in the outdated map */
 };
@@ -49,17 +52,30 @@ static void print_answer(struct gg_answer answer)
     }
 }
 
+/* What the question answers: bit 0 alone is 00H, an empty register is none. */
+static void print_highest(struct gg_answer highest)
+{
+    switch (highest.number) {
+    case GG_HIGHEST_VECTOR:
+        printf("%02" PRIX64 "H", highest.first);
+        break;
+    case GG_HIGHEST_NONE:
+        printf("none");
+        break;
+    default:
+        printf("refused, refusal %" PRIu64, highest.first);
+    }
+}
+
+/* A register's highest vector, and those below it from the top down. */
 static void print_vectors(const char *name, uint32_t base)
 {
-    int any = 0;
-    printf(", %s", name);
-    for (unsigned vector = 0; vector < 256; vector++)
-        if (gg_vector_is_set(page, base, (uint8_t)vector)) {
-            printf(" %02XH", vector);
-            any = 1;
-        }
-    if (!any)
-        printf(" nothing");
+    struct gg_answer highest = gg_run_highest(page, sizeof page, base);
+    printf("%s ", name);
+    print_highest(highest);
+    for (uint64_t vector = highest.number == GG_HIGHEST_VECTOR ? highest.first : 0; vector-- > 0;)
+        if (gg_vector_is_set(page, base, (uint8_t)vector))
+            printf(", then %02" PRIX64 "H", vector);
 }
 
 /* Prints in words and numbers what has just been carried out. */
@@ -67,11 +83,12 @@ static struct gg_answer show(const char *words, struct gg_answer answer)
 {
     printf("%s\n    ", words);
     print_answer(answer);
-    printf("\n    %s, RVI %02XH, SVI %02XH, VPPR %02" PRIX32 "H", record.mode == GG_GUEST ? "guest" : "root",
-           record.rvi, record.svi, gg_word(page, GG_VPPR));
-    print_vectors("requested", GG_VIRR);
-    print_vectors("in service", GG_VISR);
-    printf("%s\n", record.recognised ? ", an interrupt is recognised" : "");
+    printf("\n    %s, RVI %02XH, SVI %02XH, VPPR %02" PRIX32 "H%s\n    ",
+           record.mode == GG_GUEST ? "guest" : "root", record.rvi, record.svi, gg_word(page, GG_VPPR),
+           record.recognised ? ", an interrupt is recognised" : "");
+    print_vectors("highest request", GG_VIRR);
+    print_vectors("; highest in service", GG_VISR);
+    printf("\n");
     if (answer.number == GG_DELIVERED && answer.first == WAKE_UP) {
         clamp_armed = 1;
         printf("    the tuner's handler arms black level clamp\n");
@@ -112,17 +129,23 @@ static void execute(const struct instruction *instruction)
         printf("    nothing is requested: the write is the hypervisor's to handle, and this one drops it\n");
 }
 
-/* The instruction loop: an instruction, the way back where it leaves the guest, the boundary after it. */
+/* The way back where the guest has left, and the boundary after it. */
+static void go_on(void)
+{
+    if (record.mode == GG_ROOT)
+        step("The hypervisor enters the guest again.", enter());
+    if (gg_boundary_matters(&record, GG_IF, GG_ACTIVE))
+        step("The boundary after it is open and matters.", gg_boundary(GG_IF, GG_ACTIVE));
+    else
+        printf("    the boundary after it does nothing and isn't sent\n");
+}
+
+/* The instruction loop: an instruction and what follows it. */
 static void run(const struct instruction *code, size_t count)
 {
     for (size_t i = 0; i < count; i++) {
         execute(&code[i]);
-        if (record.mode == GG_ROOT)
-            step("The hypervisor enters the guest again.", enter());
-        if (gg_boundary_matters(&record, GG_IF, GG_ACTIVE))
-            step("The boundary after it is open and matters.", gg_boundary(GG_IF, GG_ACTIVE));
-        else
-            printf("    the boundary after it does nothing and isn't sent\n");
+        go_on();
     }
 }
 
@@ -156,8 +179,28 @@ static void outdated_driver(void)
     printf("A driver made from a map in which bit 13 is spare\n\n");
     clamp_armed = 0;
     run(code, sizeof code / sizeof code[0]);
-    printf("\nBlack level clamp is %s.\n",
+    printf("\nBlack level clamp is %s.\n\n",
            clamp_armed ? "armed" : "not armed by hardware: grey night pictures");
+}
+
+/* A line whose table entry says 00H: RVI doesn't tell its request from none, the question does. */
+static void unprogrammed_line(void)
+{
+    printf("A second sensor whose line table entry nobody has programmed\n\n");
+    show("The second sensor raises its line: an external interrupt takes the guest out.",
+         gg_run_leave(&record));
+    uint8_t rvi = record.rvi;
+    struct gg_answer before = gg_run_highest(page, sizeof page, GG_VIRR);
+    step("The line's table entry says 00H, and the hypervisor requests that.", gg_request(UNPROGRAMMED));
+    go_on();
+    struct gg_answer after = gg_run_highest(page, sizeof page, GG_VIRR);
+    printf("\nRVI was %02XH and is %02XH; the highest request was ", rvi, record.rvi);
+    print_highest(before);
+    printf(" and is ");
+    print_highest(after);
+    int requested = before.number == GG_HIGHEST_NONE && after.number == GG_HIGHEST_VECTOR;
+    printf(".\n%s.\n", requested ? "The line was raised; its table entry is what is missing"
+                                 : "Nothing has come from the line");
 }
 
 int main(void)
@@ -168,5 +211,6 @@ int main(void)
     printf("\n");
     current_driver();
     outdated_driver();
+    unprogrammed_line();
     return 0;
 }

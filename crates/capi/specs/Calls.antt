@@ -6,7 +6,11 @@ use mathlib.Core.List.{List}
 use lib.Dec.{eqb}
 use lib.ListN.{length, replicate}
 use Rattle.processor.specs.Logic.{if_then_else_}
-use Rattle.events.specs.Answers.{numbersOf}
+use Rattle.processor.specs.Offsets.{virr, visr}
+use Rattle.registers.specs.declared.found.Found.{Found}
+use Rattle.registers.specs.declared.found.Found.the-variants.{None, Vector}
+use Rattle.registers.specs.Vectors.{highestSet}
+use Rattle.events.specs.Answers.{numbers, numbersOf}
 use Rattle.events.specs.declared.answer.Numbers.{Numbers}
 use Rattle.events.specs.declared.answer.Outcome.{Outcome}
 use Rattle.meaning.specs.Input.{given, leaves}
@@ -79,6 +83,19 @@ pub record Replies (a : Reply) (n f s : ℕ) (b p : List ℕ) : Type 0 where
   pub second : s ≡ a .second
   pub recordBytes : b ≡ a .recordBytes
   pub page : p ≡ a .page
+
+-- gg_highest's own answers: 0 refused (1 a page of another length, 2 another base); 1 a vector; 2 none. Numbers not named are 0.
+abbrev pub foundNumbers : Found → Numbers
+foundNumbers None = numbers 2 0 0
+foundNumbers (Vector v) = numbers 1 v 0
+
+-- gg_highest reads the page alone. Its claim: the answer and its two values are these.
+unfoldable pub ggHighest : List ℕ → ℕ → Numbers
+ggHighest p base =
+    if not (eqb (length p) 4096) then numbers 0 1 0
+    else if eqb base virr then foundNumbers (highestSet p virr)
+    else if eqb base visr then foundNumbers (highestSet p visr)
+    else numbers 0 2 0
 
 pub record FreshReply : Type 0 where
   pub answer : ℕ

@@ -3,16 +3,21 @@ ghost use mathlib.Core.Path.{_≡_};
 ghost use mathlib.Core.List.{List};
 ghost use Prim.Native.Nat.{ℕ};
 ghost use Rattle.events.specs.Answers.{numbers as numbersFor};
-ghost use Rattle.capi.specs.Calls.{Told, Handed, Replies, FreshReplies, modelReply, ggStep, leaveReply, ggLeave, ggFresh};
+ghost use Rattle.capi.specs.Calls.{Told, Handed, Replies, FreshReplies, modelReply, ggStep, leaveReply, ggLeave, foundNumbers, ggHighest, ggFresh};
 use event_bytes::event_of;
 use event_bytes::event_readable;
 use events::answer::Numbers;
 use events::answer::Outcome;
 use events::answer::numbers_of;
+use processor::offsets::VIRR;
+use processor::offsets::VISR;
 use records::clear;
 use records::keep;
 use records::record_of;
 use records::record_readable;
+use registers::found::Found;
+use registers::vectors::highest_request;
+use registers::vectors::highest_service;
 
 mod controls;
 mod event_bytes;
@@ -117,6 +122,49 @@ pub extern "C" fn gg_leave(record: &mut [u8], first: &mut u64, second: &mut u64)
     ensures { λ r. ⌜ ((p : List ℕ) → Replies (ggLeave p (now («record» .entry))) r (now (first .exit)) (now (second .exit)) (now («record» .exit)) p) ⌝ }
 {
     hand_over(leave_bytes(record), first, second)
+}
+
+// What the search finds, in the numbers of its own answers: 1 a vector, 2 none.
+fn found_numbers(found: Found) -> Numbers
+    ensures { λ r. ⌜ r ≡ foundNumbers found ⌝ }
+{
+    match found {
+        Found::None => Numbers {
+            answer: 2,
+            first: 0,
+            second: 0,
+        },
+        Found::Vector(vector) => Numbers {
+            answer: 1,
+            first: vector as u64,
+            second: 0,
+        },
+    }
+}
+
+// Refusal 1 of a page of another length; the register that the base names; refusal 2 of another base.
+fn highest_numbers(page: &[u8], base: u32) -> Numbers
+    ensures { λ r. ⌜ r ≡ ggHighest (now (page .entry)) base ⌝ }
+{
+    if page.len() != 4096 {
+        return refused(1);
+    }
+    if base == VIRR as u32 {
+        return found_numbers(highest_request(page));
+    }
+    if base == VISR as u32 {
+        return found_numbers(highest_service(page));
+    }
+    refused(2)
+}
+
+// The highest request (base VIRR) or service (base VISR) of a page, or none: the answer's number comes back, its two values go to
+// first and second.
+#[no_mangle]
+pub extern "C" fn gg_highest(page: &[u8], base: u32, first: &mut u64, second: &mut u64) -> u32
+    ensures { λ r. ⌜ Handed (ggHighest (now (page .entry)) base) r (now (first .exit)) (now (second .exit)) ⌝ }
+{
+    hand_over(highest_numbers(page, base), first, second)
 }
 
 // The record before any event, where 48 bytes are lent.

@@ -1,4 +1,4 @@
--- Every bench case holds of the definitions: one claim, computed. Assumes nothing.
+-- Every bench case and every row of the search holds of the definitions: a claim each, computed. Assumes nothing.
 use lib.Dec.{T}
 use Rattle.processor.specs.Controls.{eoiExitWord}
 use Rattle.events.specs.Events.{valueInBounds, eventInBounds, rootOnly, allowed}
@@ -18,8 +18,12 @@ use Rattle.meaning.specs.Boundary.{deliveredPage, deliveredRecord, deliv
 use Rattle.meaning.specs.Leave.{left}
 use Rattle.meaning.specs.Refusals.{refusalOf}
 use Rattle.meaning.specs.Step.{eventOut, carriedOut, stepBy, step}
-use Rattle.meaning.specs.Bench.{rowHolds, rowsHold, benchRows}
+use Rattle.meaning.specs.Bench.{rowHolds, rowsHold, benchRows, searchesHold, searchRows}
 
 pub every-row-holds : T (rowsHold benchRows)
 unfolding eoiExitWord valueInBounds eventInBounds rootOnly allowed failingCheck openOffset memoryAccess readQualification writeFollowing cr8Access wrmsrFollowing wrmsr ppr larger halfAt wordAt longAt readAt setHalf setWord setLong storeAt isSet putVector highestBelow highest pprVirtualization evaluation evaluatedQuiet tprVirtualization retiredPage retiredRecord eoiEnd eoiVirtualization requestedPage requestedRecord selfIpiVirtualization entered entry request readBy memoryRead clearThree followBy written writeBy memoryWrite toCr8By movToCr8 fromCr8By movFromCr8 readMsr writeMsrBy writeMsr deliveredPage deliveredRecord delivery boundaryAt boundary left refusalOf eventOut carriedOut stepBy step rowHolds
 every-row-holds = tt
+
+pub every-search-holds : T (searchesHold searchRows)
+unfolding isSet putVector highestBelow
+every-search-holds = tt

@@ -1,18 +1,22 @@
 -- Document 01, "Bench cases" K1 to K12, and one of the guest that leaves, as rows of one table: where a row starts, what is done, and
--- what must come of it.
+-- what must come of it. Then rows of the search: what it finds on a page.
 use Prim.Native.Nat.{ℕ}
 use mathlib.Core.Bool.{Bool, true, false, _&&_, Bool·beq}
 use mathlib.Core.List.{List, [], _∷_, _++_}
 use lib.Dec.{eqb}
+use lib.ListN.{replicate}
 use Rattle.events.specs.declared.answer.Numbers.{Numbers}
 use Rattle.events.specs.Answers.{numbers}
 use Rattle.processor.specs.declared.controls.Controls.{Controls}
 use Rattle.processor.specs.declared.controls.Record.{Record}
 use Rattle.events.specs.declared.event.Event.{Event}
 use Rattle.events.specs.declared.event.Event.the-variants.{Entry, Request, MemoryRead, MemoryWrite, ToCr8, Boundary}
-use Rattle.processor.specs.Offsets.{vtpr}
+use Rattle.processor.specs.Offsets.{vtpr, virr, visr}
 use Rattle.page.specs.Page.{wordAt}
 use Rattle.stores.specs.Stores.{setByte}
+use Rattle.registers.specs.declared.found.Found.{Found}
+use Rattle.registers.specs.declared.found.Found.the-variants.{None, Vector}
+use Rattle.registers.specs.Vectors.{setVector, highestSet}
 use Rattle.meaning.specs.Input.{Input, given, leaves}
 use Rattle.meaning.specs.Procedures.{pprVirtualization}
 use Rattle.meaning.specs.Run.{Held, zeroPage, start, after, answers}
@@ -211,3 +215,34 @@ leaving =
 -- K1 to K12, and the guest that leaves
 abbrev pub benchRows : List Row
 benchRows = (k1 ∷ k2 ∷ k3 ∷ k4 ∷ k5 ∷ []) ++ k6 ++ k7 ++ k8 ++ k9 ++ k10 ++ k11 ++ (k12 ∷ leaving ∷ [])
+
+-- a row of the search: a page, a register's base, and what is found there
+pub record Search : Type 0 where
+  pub page : List ℕ
+  pub base : ℕ
+  pub found : Found
+
+abbrev pub sameFound : Found → Found → Bool
+sameFound None None = true
+sameFound None (Vector w) = false
+sameFound (Vector v) None = false
+sameFound (Vector v) (Vector w) = eqb v w
+
+abbrev pub searchesHold : List Search → Bool
+searchesHold [] = true
+searchesHold (s ∷ rows) = sameFound (highestSet (s .page) (s .base)) (s .found) && searchesHold rows
+
+abbrev searched : List ℕ → ℕ → Found → Search
+searched p base found = record { page = p; base = base; found = found }
+
+-- one bit of VIRR alone: that vector there, and none in VISR; and the same with the registers changed about
+abbrev bitAlone : ℕ → List Search
+bitAlone v =
+    searched (setVector zeroPage virr v) virr (Vector v) ∷ searched (setVector zeroPage virr v) visr None ∷
+    searched (setVector zeroPage visr v) visr (Vector v) ∷ searched (setVector zeroPage visr v) virr None ∷ []
+
+-- an empty register is none; bit 0 alone is vector 0; bit 255 alone; every bit
+abbrev pub searchRows : List Search
+searchRows =
+    (searched zeroPage virr None ∷ searched zeroPage visr None ∷ []) ++ bitAlone 0 ++ bitAlone 255 ++
+    (searched (replicate 4096 0xff) virr (Vector 255) ∷ searched (replicate 4096 0xff) visr (Vector 255) ∷ [])

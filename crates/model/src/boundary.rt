@@ -11,7 +11,8 @@ use processor::controls::Record;
 use processor::offsets::VIRR;
 use processor::offsets::VISR;
 use processor::offsets::VPPR;
-use registers::vectors::highest_vector;
+use registers::found::NONE_COUNTS_AS;
+use registers::vectors::highest_request;
 use registers::vectors::put_vector;
 use rules::procedures::low_cleared;
 use rules::procedures::open_boundary;
@@ -32,7 +33,7 @@ fn delivery(page: &mut [u8], record: Record) -> Outcome
     move_to_service(page, vector);
     let mut next = record;
     next.svi = vector;
-    next.rvi = highest_vector(page, VIRR);
+    next.rvi = highest_request(page).or(NONE_COUNTS_AS);
     next.recognised = false;
     delivered(next, vector)
 }

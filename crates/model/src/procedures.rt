@@ -12,7 +12,8 @@ use processor::offsets::VIRR;
 use processor::offsets::VISR;
 use processor::offsets::VPPR;
 use processor::offsets::VTPR;
-use registers::vectors::highest_vector;
+use registers::found::NONE_COUNTS_AS;
+use registers::vectors::highest_service;
 use registers::vectors::put_vector;
 use rules::procedures::below_threshold;
 use rules::procedures::evaluates;
@@ -64,7 +65,7 @@ pub fn retired(page: &mut [u8], record: Record) -> Record
 {
     put_vector(page, VISR, record.svi, false);
     let mut next = record;
-    next.svi = highest_vector(page, VISR);
+    next.svi = highest_service(page).or(NONE_COUNTS_AS);
     next
 }
 

@@ -7,11 +7,12 @@ use mathlib.Core.Bool.{Bool, true, false}
 use mathlib.Core.List.{List}
 use lib.Count.{leadingZeros, leading-unique}
 use lib.Pow.{pow-pos}
-use borrow.Author.Tests.{eqb-true, eqb-false}
+use borrow.Author.Tests.{eqb-true, eqb-false, ne-eqb}
 use Rattle.processor.specs.Logic.{if_then_else_, bit}
 use Rattle.page.specs.Page.{byteAt, wordAt}
-use Rattle.registers.specs.Vectors.{isSet, highestBit, highest}
-use Rattle.registers.proofs.Top.{top, highest-top}
+use Rattle.registers.specs.declared.found.Found.{Found}
+use Rattle.registers.specs.declared.found.Found.the-variants.{Vector}
+use Rattle.registers.specs.Vectors.{isSet, highestBelow, highestSet, foundAt, Places, highestBit}
 use Rattle.registers.proofs.Words.{vector-in-word}
 
 -- ---- the highest set bit of a word, by its leading zeros
@@ -64,21 +65,21 @@ leading-highest word n h =
     rest zeros high l e = omega arith
 
 -- ---- down a register, from word `left`
--- the top of m bits and n more above them, by the highest of those n
-abbrev after : (ℕ → Bool) → ℕ → ℕ → ℕ
-after f m zero = top f m
-after f m (suc k) = m + k
+-- the search of m vectors and n more above them, by the highest of those n
+abbrev after : List ℕ → ℕ → ℕ → Found
+after p m zero = highestBelow p 0 m
+after p m (suc k) = Vector (m + k)
 
-block : (f : ℕ → Bool) (word m n : ℕ) → ((k : ℕ) → k < n → f (m + k) ≡ bit word k) → top f (m + n) ≡ after f m (highestBit word n)
-unfolding highestBit
-block f word m zero h = ap (λ x. top f x) (add-zero m)
-block f word m (suc k) h = ap (λ x. top f x) (add-suc m k) ∙ by (bit word k) (h k (le-refl (suc k))) (block f word m k (λ j l. h j (omega arith)))
+block : (p : List ℕ) (word m n : ℕ) → ((k : ℕ) → k < n → isSet p 0 (m + k) ≡ bit word k) → highestBelow p 0 (m + n) ≡ after p m (highestBit word n)
+unfolding highestBelow highestBit
+block p word m zero h = ap (λ x. highestBelow p 0 x) (add-zero m)
+block p word m (suc k) h = ap (λ x. highestBelow p 0 x) (add-suc m k) ∙ by (bit word k) (h k (le-refl (suc k))) (block p word m k (λ j l. h j (omega arith)))
   where
-    by : (b : Bool) → f (m + k) ≡ b → top f (m + k) ≡ after f m (highestBit word k) → (if f (m + k) then m + k else top f (m + k)) ≡ after f m (if b then suc k else highestBit word k)
+    by : (b : Bool) → isSet p 0 (m + k) ≡ b → highestBelow p 0 (m + k) ≡ after p m (highestBit word k) → (if isSet p 0 (m + k) then Vector (m + k) else highestBelow p 0 (m + k)) ≡ after p m (if b then suc k else highestBit word k)
     by true e ih = simp e
     by false e ih = simp e ih
 
-module _ (p : List ℕ) (left : ℕ) (bytes : (i : ℕ) → byteAt p i < 256) (some : 0 < left) (most : left ≤ 8) (rest : highest p 0 ≡ top (isSet p 0) (32 * left)) where
+module _ (p : List ℕ) (left : ℕ) (bytes : (i : ℕ) → byteAt p i < 256) (some : 0 < left) (most : left ≤ 8) (rest : highestSet p 0 ≡ highestBelow p 0 (32 * left)) where
   abbrev word : ℕ
   word = wordAt p (16 * (left - 1))
 
@@ -94,28 +95,34 @@ module _ (p : List ℕ) (left : ℕ) (bytes : (i : ℕ) → byteAt p i < 256) (s
       column : (a k : ℕ) → k < 32 → (32 * a + k) % 32 ≡ k
       column a k h = omega arith
 
-  by-word : highest p 0 ≡ after (isSet p 0) (32 * (left - 1)) (highestBit word 32)
-  by-word = rest ∙ ap (λ x. top (isSet p 0) x) down ∙ block (isSet p 0) word (32 * (left - 1)) 32 at-bit
+  by-word : highestSet p 0 ≡ after p (32 * (left - 1)) (highestBit word 32)
+  by-word = rest ∙ ap (λ x. highestBelow p 0 x) down ∙ block p word (32 * (left - 1)) 32 at-bit
     where
       down : 32 * left ≡ 32 * (left - 1) + 32
       down = omega arith
 
-  pub word-found : (found : ℕ) → found ≡ highestBit word 32 → 0 < found → (32 * (left - 1) + found - 1) % 256 ≡ highest p 0
+  pub word-found : (found : ℕ) → found ≡ highestBit word 32 → 0 < found → Places p 0 (32 * (left - 1) + found - 1)
   word-found zero e h = absurd (not-suc-le-zero h)
-  word-found (suc k) e h = place (bit-most word 32) ∙ sym (by-word ∙ ap (λ x. after (isSet p 0) (32 * (left - 1)) x) (sym e))
+  word-found (suc k) e h = record { within = within (bit-most word 32); found = is-vector ∙ sym (by-word ∙ ap (λ x. after p (32 * (left - 1)) x) (sym e)) }
     where
-      place : highestBit word 32 ≤ 32 → (32 * (left - 1) + suc k - 1) % 256 ≡ 32 * (left - 1) + k
-      place l = omega arith
+      within : highestBit word 32 ≤ 32 → 32 * (left - 1) + suc k - 1 ≤ 256
+      within l = omega arith
 
-  pub word-next : (found : ℕ) → found ≡ highestBit word 32 → found ≤ 0 → highest p 0 ≡ top (isSet p 0) (32 * (left - 1))
-  word-next zero e h = by-word ∙ ap (λ x. after (isSet p 0) (32 * (left - 1)) x) (sym e)
+      below : highestBit word 32 ≤ 32 → 32 * (left - 1) + suc k - 1 ≡ 256 → ⊥
+      below l q = omega arith
+
+      place : 32 * (left - 1) + suc k - 1 ≡ 32 * (left - 1) + k
+      place = omega arith
+
+      is-vector : foundAt (32 * (left - 1) + suc k - 1) ≡ Vector (32 * (left - 1) + k)
+      is-vector = simp (ne-eqb _ _ (below (bit-most word 32))) (ap (λ x. Vector x) place)
+
+  pub word-next : (found : ℕ) → found ≡ highestBit word 32 → found ≤ 0 → highestSet p 0 ≡ highestBelow p 0 (32 * (left - 1))
+  word-next zero e h = by-word ∙ ap (λ x. after p (32 * (left - 1)) x) (sym e)
   word-next (suc k) e h = absurd (not-suc-le-zero h)
 
--- before the first word all 256 bits are left, after the last none
-pub words-all : (p : List ℕ) → highest p 0 ≡ top (isSet p 0) (32 * 8)
-unfolding highest
-words-all p = highest-top p 0 256
-
-pub words-over : (p : List ℕ) (left : ℕ) → left ≤ 0 → highest p 0 ≡ top (isSet p 0) (32 * left) → 0 ≡ highest p 0
-words-over p zero h e = sym e
+-- after the last word nothing is left
+pub words-over : (p : List ℕ) (left : ℕ) → left ≤ 0 → highestSet p 0 ≡ highestBelow p 0 (32 * left) → Places p 0 256
+unfolding highestBelow
+words-over p zero h e = record { within = le-refl 256; found = sym e }
 words-over p (suc n) h e = absurd (not-suc-le-zero h)

@@ -11,8 +11,9 @@ use lib.ListN.{length, getD, set, drop, length-drop, drop-of-length-le}
 use lib.Seq.{set-out, take-all, getD-drop}
 use borrow.Author.Tests.{ltb-true, ltb-false}
 use borrow.Rule.Slice.PartMut.{midOf, putMid, mid-len, put-same, set-mid-at}
-use Rattle.registers.specs.Vectors.{isSet, highestBelow, highest}
-use Rattle.registers.proofs.Top.{highest-same}
+use Rattle.registers.specs.declared.found.Found.the-variants.{None}
+use Rattle.registers.specs.Vectors.{isSet, highestBelow, highestSet}
+use Rattle.registers.proofs.Top.{found-same}
 
 module _ (p : List ℕ) (base : ℕ) where
   abbrev size : ℕ
@@ -43,11 +44,11 @@ module _ (p : List ℕ) (base : ℕ) where
   pub changed-part : (j : ℕ) (f : ℕ → ℕ) → putMid base size p (set part j (f (getD part j 0))) ≡ set p (base + j) (f (getD p (base + j) 0))
   changed-part j f = by-place j f (ltb j size) refl
 
-  pub highest-part : highest part 0 ≡ highest p base
+  pub found-part : highestSet part 0 ≡ highestSet p base
   unfolding isSet
-  highest-part = highest-same part p 0 base (λ v l. simp (zero-add, part-byte))
+  found-part = found-same part p 0 base 256 (λ v l. simp (zero-add, part-byte))
 
   -- past the page's end nothing is set
-  pub highest-past : length p ≤ base → 0 ≡ highest p base
-  unfolding isSet highestBelow highest
-  highest-past h = ap (λ q. highest q 0) (sym (part-all ∙ drop-of-length-le p h)) ∙ highest-part
+  pub found-past : length p ≤ base → None ≡ highestSet p base
+  unfolding isSet highestBelow
+  found-past h = ap (λ q. highestSet q 0) (sym (part-all ∙ drop-of-length-le p h)) ∙ found-part

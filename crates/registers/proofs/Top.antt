@@ -8,28 +8,38 @@ use mathlib.Core.List.{List}
 use lib.Dec.{eqb, ltb}
 use borrow.Author.Tests.{eq-eqb, eqb-true, eqb-false, ltb-true, ltb-false}
 use Rattle.processor.specs.Logic.{if_then_else_, larger}
-use Rattle.registers.specs.Vectors.{isSet, put, highestBelow, highest}
+use Rattle.registers.specs.declared.found.Found.the-variants.{Vector}
+use Rattle.registers.specs.Vectors.{isSet, put, highestBelow, orElse, highest}
 
 -- the highest set place below n, 0 where there is none
 abbrev pub top : (ℕ → Bool) → ℕ → ℕ
 top f zero = 0
 top f (suc v) = if f v then v else top f v
 
--- the search on a page's register is that of the register's bits
-pub highest-top : (p : List ℕ) (base n : ℕ) → highestBelow p base n ≡ top (isSet p base) n
+-- the search on a page's register, where none counts as 0, is that of the register's bits
+pub highest-top : (p : List ℕ) (base n : ℕ) → orElse (highestBelow p base n) 0 ≡ top (isSet p base) n
 unfolding highestBelow
 highest-top p base zero = refl
-highest-top p base (suc v) = simp (highest-top p base v)
+highest-top p base (suc v) = by (isSet p base v) (highest-top p base v)
+  where
+    by : (b : Bool) → orElse (highestBelow p base v) 0 ≡ top (isSet p base) v → orElse (if b then Vector v else highestBelow p base v) 0 ≡ (if b then v else top (isSet p base) v)
+    by true e = refl
+    by false e = e
 
 -- rows that agree below n have one top
 pub top-ext : (f g : ℕ → Bool) (n : ℕ) → ((w : ℕ) → w < n → f w ≡ g w) → top f n ≡ top g n
 top-ext f g zero h = refl
 top-ext f g (suc v) h = simp (h v (le-refl (suc v)), top-ext f g v (λ w l. h w (omega arith)))
 
--- registers that agree bit by bit have one highest vector, wherever they lie
+-- registers that agree bit by bit have one search, wherever they lie, and one highest vector
+pub found-same : (p q : List ℕ) (a b n : ℕ) → ((w : ℕ) → w < n → isSet p a w ≡ isSet q b w) → highestBelow p a n ≡ highestBelow q b n
+unfolding highestBelow
+found-same p q a b zero h = refl
+found-same p q a b (suc v) h = simp (h v (le-refl (suc v)), found-same p q a b v (λ w l. h w (omega arith)))
+
 pub highest-same : (p q : List ℕ) (a b : ℕ) → ((w : ℕ) → w < 256 → isSet p a w ≡ isSet q b w) → highest p a ≡ highest q b
 unfolding highest
-highest-same p q a b h = highest-top p a 256 ∙ top-ext (isSet p a) (isSet q b) 256 h ∙ sym (highest-top q b 256)
+highest-same p q a b h = ap (λ f. orElse f 0) (found-same p q a b 256 h)
 
 pub top-below : (f : ℕ → Bool) (n : ℕ) → 0 < n → top f n < n
 top-below f zero h = absurd (not-suc-le-zero h)

@@ -1,11 +1,14 @@
 -- Document 01, "Registers on the page": the vectors of VIRR and VISR.
-use Prim.Native.Nat.{ℕ, zero, suc, _+_, _-_, _*_, _/_, _%_, _^_}
+use Prim.Native.Nat.{ℕ, zero, suc, _+_, _-_, _*_, _/_, _%_, _^_, _<_, _≤_}
+use mathlib.Core.Path.{_≡_}
 use mathlib.Core.Bool.{Bool, true, false}
 use mathlib.Core.List.{List}
 use lib.Dec.{eqb}
 use Rattle.processor.specs.Logic.{if_then_else_, bit}
 use Rattle.page.specs.Page.{byteAt}
 use Rattle.stores.specs.Stores.{setByte}
+use Rattle.registers.specs.declared.found.Found.{Found}
+use Rattle.registers.specs.declared.found.Found.the-variants.{None, Vector}
 
 -- Vector v is bit (v mod 32) of the word at the register's base + 16 × floor(v/32): bit (v mod 8) of this byte from the base on
 abbrev pub vectorByte : ℕ → ℕ
@@ -34,13 +37,37 @@ clearVector p base v = putVector p base v false
 abbrev pub put : (ℕ → Bool) → ℕ → Bool → ℕ → Bool
 put f v on w = if eqb v w then on else f w
 
--- the highest set vector below n; of an empty register it counts as 0
-unfoldable pub highestBelow : List ℕ → ℕ → ℕ → ℕ
-highestBelow p base zero = 0
-highestBelow p base (suc v) = if isSet p base v then v else highestBelow p base v
+-- the highest set vector below n, or none
+unfoldable pub highestBelow : List ℕ → ℕ → ℕ → Found
+highestBelow p base zero = None
+highestBelow p base (suc v) = if isSet p base v then Vector v else highestBelow p base v
 
+-- the highest set vector of the register at the base, or none
+abbrev pub highestSet : List ℕ → ℕ → Found
+highestSet p base = highestBelow p base 256
+
+-- a vector exactly where a bit below n is set, and then the highest: what the search promises, in words of the bits
+abbrev pub Finds : List ℕ → ℕ → ℕ → Found → Type 0
+Finds p base n None = (w : ℕ) → w < n → isSet p base w ≡ false
+Finds p base n (Vector v) = (v < n) × (isSet p base v ≡ true) × ((w : ℕ) → w < n → isSet p base w ≡ true → w ≤ v)
+
+-- the vector found, or a number in place of none
+abbrev pub orElse : Found → ℕ → ℕ
+orElse None none = none
+orElse (Vector v) none = v
+
+-- The highest set vector of an empty register counts as 0.
 unfoldable pub highest : List ℕ → ℕ → ℕ
-highest p base = highestBelow p base 256
+highest p base = orElse (highestSet p base) 0
+
+-- what the search's number says: none at 256, past every vector; else the vector
+abbrev pub foundAt : ℕ → Found
+foundAt place = if eqb place 256 then None else Vector place
+
+-- a number that says what is found in the register at the base
+pub record Places (p : List ℕ) (base place : ℕ) : Type 0 where
+  pub within : place ≤ 256
+  pub found : foundAt place ≡ highestSet p base
 
 -- what the search asks of a word: its highest set bit below bit n, counted from 1; 0 where none is set
 unfoldable pub highestBit : ℕ → ℕ → ℕ

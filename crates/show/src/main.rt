@@ -1,5 +1,5 @@
 // Shows the model at work: one session of bench cases K1 to K3, then one wake-up call with ICR bit 13 off and with it on, then a guest
-// that leaves.
+// that leaves, then a request of vector 00H.
 use crate::words::say;
 use crate::words::say_answer;
 use crate::words::say_requests;
@@ -15,10 +15,15 @@ use processor::offsets::VICR_LO;
 
 mod words;
 
-// "M": controls 0, 1, 4 and 5 on.
-fn controls_m() -> Controls {
+// "V": controls 0, 4 and 5 on.
+const CONTROLS_V: u32 = 0x31;
+
+// "M": control 1 as well.
+const CONTROLS_M: u32 = 0x33;
+
+fn controls_of(flags: u32) -> Controls {
     Controls {
-        flags: 0x33,
+        flags,
         threshold: 0,
         eoi_exit_0: 0,
         eoi_exit_1: 0,
@@ -58,7 +63,7 @@ fn show(page: &mut [u8], record: Record, words: &[u8], event: Event) -> Record {
 }
 
 fn show_entry(page: &mut [u8], record: Record) -> Record {
-    let event = Event::Entry(controls_m());
+    let event = Event::Entry(controls_of(CONTROLS_M));
     show(
         page,
         record,
@@ -167,9 +172,32 @@ fn show_leave(page: &mut [u8], serving: Record) {
     show_boundary(page, entered);
 }
 
+// K12: RVI is 00 with nothing requested and with vector 00H requested; the search tells the two apart.
+fn show_k12(page: &mut [u8]) {
+    say(
+        b"\nK12, under V (controls 0, 4 and 5): vector 00H is requested, and RVI is 00 as before.\n",
+    );
+    say(b"  before any event:                                                                   ");
+    say_status(page, fresh_record());
+    let event = Event::Request(0);
+    let requested = show(
+        page,
+        fresh_record(),
+        b"  request 00H:                               ",
+        event,
+    );
+    let entry = Event::Entry(controls_of(CONTROLS_V));
+    show(
+        page,
+        requested,
+        b"  entry under V:                             ",
+        entry,
+    );
+}
+
 fn main() {
     say(
-        b"Values in hex; answer and exit numbers in decimal. RVI, SVI and VPPR are those after the event.\n",
+        b"Values in hex; answer and exit numbers in decimal. RVI, SVI, VPPR and what is highest are those after the event.\n",
     );
     say(b"\nOne session, K1 to K3, under M (controls 0, 1, 4 and 5).\n");
     let mut page = [0u8; 4096];
@@ -181,4 +209,6 @@ fn main() {
     show_call_sent(&mut page_sent, serving);
     show_call_left(&mut page_left, serving);
     show_leave(&mut page_leave, serving);
+    let mut page_k12 = [0u8; 4096];
+    show_k12(&mut page_k12);
 }

@@ -5,6 +5,9 @@ use page::bytes::word_at;
 use processor::controls::Record;
 use processor::offsets::VIRR;
 use processor::offsets::VPPR;
+use registers::found::Found;
+use registers::vectors::highest_request;
+use registers::vectors::highest_service;
 
 const OUT: i32 = 1;
 
@@ -67,11 +70,27 @@ pub fn say_answer(answer: Answer) {
     }
 }
 
-// RVI, SVI and VPPR.
+// What the search finds: "none" for an empty register, 00H for bit 0 alone.
+fn say_found(words: &[u8], found: Found) {
+    match found {
+        Found::None => {
+            say(words);
+            say(b"none");
+        }
+        Found::Vector(vector) => {
+            say_hex(words, vector as u64, 2);
+            say(b"H");
+        }
+    }
+}
+
+// RVI, SVI and VPPR; the highest request and service.
 pub fn say_status(page: &[u8], record: Record) {
     say_hex(b"RVI ", record.rvi as u64, 2);
     say_hex(b" SVI ", record.svi as u64, 2);
     say_hex(b" VPPR ", byte_at(page, VPPR) as u64, 2);
+    say_found(b", highest request ", highest_request(page));
+    say_found(b", service ", highest_service(page));
     say(b"\n");
 }
 

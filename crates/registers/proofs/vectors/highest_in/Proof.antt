@@ -2,16 +2,15 @@
 -- Assumes nothing.
 use Prim.Native.Nat.{ℕ, _*_, _≤_}
 use native.Mathlib.Omega.{arith}
-use mathlib.Core.Path.{_≡_, _∙_, ap, subst, sym}
+use mathlib.Core.Path.{_≡_, refl, _∙_, ap, subst, sym}
 use lib.Dec.{lit≤}
-use Rattle.registers.specs.Vectors.{isSet, highestBit, highest}
-use Rattle.registers.proofs.Top.{top}
-use Rattle.registers.proofs.Highest.{bit-most, word-found, word-next, words-all, words-over}
+use Rattle.registers.specs.Vectors.{highestBelow, highestSet, highestBit}
+use Rattle.registers.proofs.Highest.{bit-most, word-found, word-next, words-over}
 use Rattle.registers.proofs.vectors.highest_in.Statement.{statement}
 use Rattle.registers.proofs.vectors.highest_in.Tie as tie
 
 abbrev Inv-loop : tie.InvT-loop
-Inv-loop register left₀ left = (left ≤ 8) × (highest register 0 ≡ top (isSet register 0) (32 * left))
+Inv-loop register left₀ left = (left ≤ 8) × (highestSet register 0 ≡ highestBelow register 0 (32 * left))
 
 abbrev μ-loop : tie.MeasureT-loop
 μ-loop register left₀ left = left
@@ -21,7 +20,7 @@ few : (found word : ℕ) → found ≡ highestBit word 32 → found ≤ 32
 few found word e = subst (λ n. n ≤ 32) (sym e) (bit-most word 32)
 
 loop-holds : tie.Need-loop-holds Inv-loop μ-loop
-loop-holds c = (lit≤ tt, words-all _)
+loop-holds c = (lit≤ tt, refl)
 
 add-result : tie.Need-add-result Inv-loop μ-loop
 add-result c = omega (arith, few (c .before .highest-bit .result) (c .before .before .word-at .result) (c .before .highest-bit .ensures))
@@ -62,7 +61,6 @@ highest-in-spec =
     (λ c. omega arith)
     (λ c. omega arith)
     add-result
-    (λ c. omega arith)
     (λ c. omega arith)
     returns
     (λ c. omega arith)
