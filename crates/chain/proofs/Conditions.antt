@@ -2,21 +2,27 @@
 use Prim.Native.Nat.{ℕ}
 use mathlib.Core.Path.{_≡_, refl, sym, ap, subst}
 use mathlib.Core.Bool.{Bool, true, false, not, _&&_}
-use mathlib.Core.List.{List}
+use mathlib.Core.List.{List, []}
 use lib.Dec.{eqb, ltb}
 use lib.ListN.{length}
+use borrow.Author.Tests.{eq-eqb}
 use Rattle.processor.specs.Logic.{if_then_else_}
+use Rattle.processor.specs.Offsets.{virr, visr}
+use Rattle.registers.specs.declared.found.Found.{Found}
+use Rattle.registers.specs.declared.found.Found.the-variants.{None, Vector}
+use Rattle.registers.specs.Vectors.{highestSet, orElse, highest}
 use Rattle.meaning.specs.Input.{Input, given, leaves}
 use Rattle.meaning.specs.Step.{step}
 use Rattle.meaning.specs.Run.{Held, start, after}
 use Rattle.meaning.specs.History.{allOn, serving}
 use Rattle.meaning.specs.Condition3.{Highest, Recognition, Served, Rising, Retires, Keeps, AtMost15, Delivers16}
 use Rattle.meaning.proofs.Condition1.{nothing-changes}
+use Rattle.meaning.proofs.Invariant.{run-inv, start-inv}
 use Rattle.meaning.proofs.Theorems.{rvi-svi-highest, recognised-exactly, in-service-exactly, classes-rise, eoi-retires-latest, nothing-else-retires, at-most-15, none-below-16}
 use Rattle.capi.specs.RecordBytes.{recordReadable, recordOf, recordBytes, kept}
 use Rattle.capi.specs.EventBytes.{eventReadable, eventOf}
-use Rattle.capi.specs.Calls.{refused, replied, modelReply, ggStep, leaveReply, ggLeave}
-use Rattle.chain.specs.Chain.{Call, begin, chain, inputs, AllBytes, heldOf, Untouched}
+use Rattle.capi.specs.Calls.{refused, replied, modelReply, ggStep, leaveReply, ggLeave, foundNumbers, ggHighest}
+use Rattle.chain.specs.Chain.{Call, begin, chain, inputs, AllBytes, heldOf, Tells, vector, none, Asked, Untouched}
 use Rattle.chain.proofs.Chain.{chain-is-run}
 
 -- ---- condition 1: a refused call leaves every lent byte, whatever the bytes are
@@ -50,6 +56,11 @@ leave-refused p b = by (eqb (length b) 48) (recordReadable b)
     by true false = unchanged 2 p b
     by true true = replied-stays p b leaves
 
+-- what is found, in gg_highest's numbers, tells the same with 0 in place of none
+tells : (f : Found) → Tells (foundNumbers f) (orElse f 0)
+tells None = none
+tells (Vector v) = vector v
+
 -- ---- condition 3: each sentence, of what is lent after any list of calls whose entries have virtual-interrupt delivery on
 module _ (cs : List Call) (b : AllBytes cs) (o : allOn (inputs cs) ≡ true) where
   abbrev now : Held
@@ -81,3 +92,14 @@ module _ (cs : List Call) (b : AllBytes cs) (o : allOn (inputs cs) ≡ true) whe
 
   pub calls-none-below-16 : (i : Input) → Delivers16 now i
   calls-none-below-16 i = of-run (λ h. Delivers16 h i) (none-below-16 (inputs cs) o i)
+
+  size : length (now .page) ≡ 4096
+  size = of-run (λ h. length (h .page) ≡ 4096) (run-inv [] start (inputs cs) o start-inv .isPage .size)
+
+  -- and the question, asked after such calls, agrees
+  pub calls-asked : Asked now
+  unfolding ggHighest highest
+  calls-asked = record {
+    rvi = simp (eq-eqb _ _ size, calls-highest .rvi) (tells (highestSet (now .page) virr));
+    svi = simp (eq-eqb _ _ size, calls-highest .svi) (tells (highestSet (now .page) visr));
+  }

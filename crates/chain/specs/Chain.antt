@@ -6,6 +6,7 @@ use mathlib.Core.List.{List, [], _∷_}
 use lib.Dec.{eqb}
 use lib.ListN.{length, replicate}
 use Rattle.processor.specs.Logic.{if_then_else_}
+use Rattle.processor.specs.Offsets.{virr, visr}
 use Rattle.events.specs.Answers.{numbers}
 use Rattle.events.specs.declared.answer.Numbers.{Numbers}
 use Rattle.page.specs.Page.{byteAt}
@@ -13,7 +14,7 @@ use Rattle.meaning.specs.Input.{Input, given, leaves}
 use Rattle.meaning.specs.Run.{zeroPage, Held, start, stepOf, heldAfter, after}
 use Rattle.capi.specs.RecordBytes.{recordReadable, recordOf, bytesOf}
 use Rattle.capi.specs.EventBytes.{eventReadable, eventOf}
-use Rattle.capi.specs.Calls.{Reply, ggStep, ggLeave}
+use Rattle.capi.specs.Calls.{Reply, ggStep, ggLeave, ggHighest}
 
 -- gg_step on an event's bytes, or gg_leave
 pub data Call : Type 0 where
@@ -90,6 +91,16 @@ pub record IsRun (cs : List Call) : Type 0 where
   pub recordBytes : chain begin cs .recordBytes ≡ bytesOf (after start (inputs cs) .state)
   pub readable : recordReadable (chain begin cs .recordBytes) ≡ true
   pub held : heldOf (chain begin cs) ≡ after start (inputs cs)
+
+-- what gg_highest brings back tells an RVI or SVI: a vector is it, and where there is none it is 0
+pub data Tells : Numbers → ℕ → Type 0 where
+  vector : (v : ℕ) → Tells (numbers 1 v 0) v
+  none : Tells (numbers 2 0 0) 0
+
+-- gg_highest, asked about what is held, tells RVI of VIRR and SVI of VISR.
+pub record Asked (h : Held) : Type 0 where
+  pub rvi : Tells (ggHighest (h .page) virr) (h .state .rvi)
+  pub svi : Tells (ggHighest (h .page) visr) (h .state .svi)
 
 -- A refused call leaves every lent byte.
 abbrev pub Untouched : List ℕ → List ℕ → Reply → Type 0

@@ -60,7 +60,8 @@ orElse (Vector v) none = v
 unfoldable pub highest : List ℕ → ℕ → ℕ
 highest p base = orElse (highestSet p base) 0
 
--- what the search's number says: none at 256, past every vector; else the vector
+-- ---- of the search alone: no definition or claim of another crate speaks of these
+-- what its number says: none at 256, past every vector; else the vector
 abbrev pub foundAt : ℕ → Found
 foundAt place = if eqb place 256 then None else Vector place
 
@@ -69,7 +70,7 @@ pub record Places (p : List ℕ) (base place : ℕ) : Type 0 where
   pub within : place ≤ 256
   pub found : foundAt place ≡ highestSet p base
 
--- what the search asks of a word: its highest set bit below bit n, counted from 1; 0 where none is set
+-- what it asks of a word: its highest set bit below bit n, counted from 1; 0 where none is set
 unfoldable pub highestBit : ℕ → ℕ → ℕ
 highestBit word zero = 0
 highestBit word (suc k) = if bit word k then suc k else highestBit word k
