@@ -51,6 +51,15 @@ find_fault() {
     return 0
 }
 
+# says NAME WORDS...: the report that a check left has a line for each of the words
+says() {
+    report=$log/$1.txt
+    shift
+    for words; do
+        grep -q "$words" "$report" || { echo "no line '$words' in $report" && return 1; }
+    done
+}
+
 # The names of the faults, none where the program is not there.
 faults() {
     $RUN "$out/compare" faults 2>/dev/null | cut -d' ' -f1
@@ -68,6 +77,8 @@ expect 0 fault-list sh -c '[ "$1" -ge 14 ]' - "$(faults | wc -l)"
 for fault in $(faults); do
     expect 1 "fault-$fault" find_fault "$fault" gate
 done
+expect 0 report-none says fault-none-is-zero '^  VI[SR]R: none$' '^  model  answers 2 none,' '^  second answers 1 vector 00H,'
+expect 0 report-zero says fault-zero-is-none '^  VI[SR]R: 00H$' '^  model  answers 1 vector 00H,' '^  second answers 2 none,'
 expect 1 null-fault-page-length-after-bounds find_fault page-length-after-bounds null
 expect 1 null-fault-highest-base-first find_fault highest-base-first null
 expect 1 matters-fault-hlt-is-shut find_fault hlt-is-shut matters
