@@ -1,34 +1,39 @@
--- How the table of open offsets is read: the marks of a register say, at each of its bytes, what document 01's four settings say.
+-- How the table of open offsets is read: each setting's number has a bit for each register, and says at each offset what document 01's
+-- setting says.
 use Prim.Native.Nat.{ℕ, _/_, _%_}
 use mathlib.Core.Path.{_≡_}
 use mathlib.Core.Bool.{Bool, _&&_, Bool·beq}
-use mathlib.Core.List.{List}
 use lib.Dec.{eqb, ltb}
-use lib.ListN.{getD}
-use Rattle.processor.specs.Logic.{allBelow}
+use Rattle.processor.specs.Logic.{bit, allBelow}
 use Rattle.accesses.specs.Accesses.{openTpr, openDelivery, openRead, openWrite}
+use Rattle.accesses.specs.declared.memory.Open.{Open}
 
--- the register's first byte alone has the mark
-abbrev pub markedFirst : ℕ → ℕ → ℕ → Bool
-markedFirst offset marks mark = eqb (offset % 16) 0 && eqb (marks / mark % 2) 1
+-- the offset's register is one of the table's 64, and its bit of the number is 1
+abbrev pub marked : ℕ → ℕ → Bool
+marked marks offset = ltb (offset / 16) 64 && bit marks (offset / 16)
 
--- any of the register's four bytes has the mark
-abbrev pub markedByte : ℕ → ℕ → ℕ → Bool
-markedByte offset marks mark = ltb (offset % 16) 4 && eqb (marks / mark % 2) 1
+-- the first byte alone of a register that is marked
+abbrev pub markedFirst : ℕ → ℕ → Bool
+markedFirst marks offset = eqb (offset % 16) 0 && marked marks offset
 
-pub record Marked (offset marks : ℕ) : Type 0 where
-  pub tpr : markedFirst offset marks 1 ≡ openTpr offset
-  pub delivery : markedFirst offset marks 2 ≡ openDelivery offset
-  pub read : markedByte offset marks 4 ≡ openRead offset
-  pub write : markedByte offset marks 8 ≡ openWrite offset
+-- any of the four bytes of a register that is marked
+abbrev pub markedByte : ℕ → ℕ → Bool
+markedByte marks offset = ltb (offset % 16) 4 && marked marks offset
+
+-- at an offset, each setting's marks say what its rule says
+pub record Rule (table : Open) (offset : ℕ) : Type 0 where
+  pub tpr : markedFirst (table .tpr) offset ≡ openTpr offset
+  pub delivery : markedFirst (table .delivery) offset ≡ openDelivery offset
+  pub read : markedByte (table .read) offset ≡ openRead offset
+  pub write : markedByte (table .write) offset ≡ openWrite offset
 
 -- the same four equations, as a test
-abbrev pub markedTest : ℕ → ℕ → Bool
-markedTest offset marks =
-    Bool·beq (markedFirst offset marks 1) (openTpr offset) &&
-    (Bool·beq (markedFirst offset marks 2) (openDelivery offset) &&
-    (Bool·beq (markedByte offset marks 4) (openRead offset) && Bool·beq (markedByte offset marks 8) (openWrite offset)))
+abbrev pub ruleTest : Open → ℕ → Bool
+ruleTest table offset =
+    Bool·beq (markedFirst (table .tpr) offset) (openTpr offset) &&
+    (Bool·beq (markedFirst (table .delivery) offset) (openDelivery offset) &&
+    (Bool·beq (markedByte (table .read) offset) (openRead offset) && Bool·beq (markedByte (table .write) offset) (openWrite offset)))
 
 -- The table carries its rule: the test passes at every offset of its 64 registers.
-abbrev pub carriesRule : List ℕ → Bool
-carriesRule table = allBelow 1024 (λ offset. markedTest offset (getD table (offset / 16) 0))
+abbrev pub carriesRule : Open → Bool
+carriesRule table = allBelow 1024 (ruleTest table)

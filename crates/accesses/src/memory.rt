@@ -1,7 +1,7 @@
 // What a memory access comes to, the table of open offsets, and what follows a redirected write.
 ghost use mathlib.Core.Path.{_≡_};
 ghost use Rattle.accesses.specs.Accesses.{openOffset, pastRegister, accessExits, memoryAccess, readQualification, writeQualification, selfIpi, writeFollowing};
-ghost use Rattle.accesses.specs.Marks.{Marked, carriesRule};
+ghost use Rattle.accesses.specs.Marks.{marked, carriesRule};
 ghost use lib.Dec.{T};
 use processor::access::Access;
 use processor::controls::APIC_REGISTER_VIRTUALIZATION;
@@ -22,131 +22,115 @@ pub enum Following {
     ApicWrite,
 }
 
-// The settings in which a register may be open, a mark for each. Control 3 off and VID off: its first byte alone.
-const TPR: u8 = 1;
+// A bit for each register from 000 to 3F0, in steps of 10H: bit 0 for 000, bit 63 for 3F0. A run of registers has a bit for each.
+const APIC_ID: u64 = 1 << 0x020 / 0x10; // APIC ID
 
-// Control 3 off and VID on: its first byte alone.
-const DELIVERY: u8 = 2;
+const VERSION: u64 = 1 << 0x030 / 0x10; // version
 
-// Control 3 on, a read: any byte of it.
-const READ: u8 = 4;
+const TPR: u64 = 1 << 0x080 / 0x10; // task priority
 
-// Control 3 on, a write: any byte of it.
-const WRITE: u8 = 8;
+const EOI: u64 = 1 << 0x0b0 / 0x10; // end of interrupt
 
-// Open in no setting.
-const CLOSED: u8 = 0;
+const LDR: u64 = 1 << 0x0d0 / 0x10; // logical destination
 
-// A row for each register from 000 to 3F0, in steps of 10H: the marks of the settings in which it is open.
-const OPEN: [u8; 64] = [
-    CLOSED, // 000 reserved
-    CLOSED, // 010 reserved
-    READ + WRITE, // 020 APIC ID
-    READ, // 030 version
-    CLOSED, // 040 reserved
-    CLOSED, // 050 reserved
-    CLOSED, // 060 reserved
-    CLOSED, // 070 reserved
-    TPR + DELIVERY + READ + WRITE, // 080 TPR
-    CLOSED, // 090 APR
-    CLOSED, // 0A0 PPR
-    DELIVERY + READ + WRITE, // 0B0 EOI
-    CLOSED, // 0C0 RRD
-    READ + WRITE, // 0D0 LDR
-    READ + WRITE, // 0E0 DFR
-    READ + WRITE, // 0F0 SVR
-    READ, // 100 ISR 31:0
-    READ, // 110 ISR 63:32
-    READ, // 120 ISR 95:64
-    READ, // 130 ISR 127:96
-    READ, // 140 ISR 159:128
-    READ, // 150 ISR 191:160
-    READ, // 160 ISR 223:192
-    READ, // 170 ISR 255:224
-    READ, // 180 TMR 31:0
-    READ, // 190 TMR 63:32
-    READ, // 1A0 TMR 95:64
-    READ, // 1B0 TMR 127:96
-    READ, // 1C0 TMR 159:128
-    READ, // 1D0 TMR 191:160
-    READ, // 1E0 TMR 223:192
-    READ, // 1F0 TMR 255:224
-    READ, // 200 IRR 31:0
-    READ, // 210 IRR 63:32
-    READ, // 220 IRR 95:64
-    READ, // 230 IRR 127:96
-    READ, // 240 IRR 159:128
-    READ, // 250 IRR 191:160
-    READ, // 260 IRR 223:192
-    READ, // 270 IRR 255:224
-    READ + WRITE, // 280 ESR
-    CLOSED, // 290 reserved
-    CLOSED, // 2A0 reserved
-    CLOSED, // 2B0 reserved
-    CLOSED, // 2C0 reserved
-    CLOSED, // 2D0 reserved
-    CLOSED, // 2E0 reserved
-    CLOSED, // 2F0 LVT CMCI
-    DELIVERY + READ + WRITE, // 300 ICR low
-    READ + WRITE, // 310 ICR high
-    READ + WRITE, // 320 LVT timer
-    READ + WRITE, // 330 LVT thermal
-    READ + WRITE, // 340 LVT performance
-    READ + WRITE, // 350 LVT LINT0
-    READ + WRITE, // 360 LVT LINT1
-    READ + WRITE, // 370 LVT error
-    READ + WRITE, // 380 initial count
-    CLOSED, // 390 current count
-    CLOSED, // 3A0 reserved
-    CLOSED, // 3B0 reserved
-    CLOSED, // 3C0 reserved
-    CLOSED, // 3D0 reserved
-    READ + WRITE, // 3E0 divide configuration
-    CLOSED, // 3F0 self-IPI
-];
+const DFR: u64 = 1 << 0x0e0 / 0x10; // destination format
 
-fn open_table() -> [u8; 64]
+const SVR: u64 = 1 << 0x0f0 / 0x10; // spurious-interrupt vector
+
+const ISR: u64 = 0xff << 0x100 / 0x10; // in-service, 100 to 170
+
+const TMR: u64 = 0xff << 0x180 / 0x10; // trigger mode, 180 to 1F0
+
+const IRR: u64 = 0xff << 0x200 / 0x10; // interrupt request, 200 to 270
+
+const ESR: u64 = 1 << 0x280 / 0x10; // error status
+
+const ICR_LOW: u64 = 1 << 0x300 / 0x10; // interrupt command, bits 31:0
+
+const ICR_HIGH: u64 = 1 << 0x310 / 0x10; // interrupt command, bits 63:32
+
+const LVT: u64 = 0x3f << 0x320 / 0x10; // local vector table, 320 to 370: timer, thermal, performance, LINT0, LINT1, error
+
+const INITIAL_COUNT: u64 = 1 << 0x380 / 0x10; // initial count
+
+const DIVIDE: u64 = 1 << 0x3e0 / 0x10; // divide configuration
+
+// Read marks alone: the registers that may be read and not written.
+const READ_ONLY: u64 = VERSION + ISR + TMR + IRR;
+
+// Read and write marks: the registers that may be read and written.
+const READ_WRITE: u64 = APIC_ID
+    + TPR
+    + EOI
+    + LDR
+    + DFR
+    + SVR
+    + ESR
+    + ICR_LOW
+    + ICR_HIGH
+    + LVT
+    + INITIAL_COUNT
+    + DIVIDE;
+
+// The registers open in each setting.
+struct Open {
+    // Control 3 off and VID off: a register's first byte alone.
+    tpr: u64,
+    // Control 3 off and VID on: a register's first byte alone.
+    delivery: u64,
+    // Control 3 on, a read: any of a register's four bytes.
+    read: u64,
+    // Control 3 on, a write: any of a register's four bytes.
+    write: u64,
+}
+
+// The table of open offsets.
+const OPEN: Open = Open {
+    tpr: TPR,
+    delivery: TPR + EOI + ICR_LOW,
+    read: READ_ONLY + READ_WRITE,
+    write: READ_WRITE,
+};
+
+fn open_table() -> Open
     ensures { λ r. ⌜ T (carriesRule r) ⌝ }
 {
     OPEN
 }
 
-// The marks of the register that an offset lies in; past the table all is closed.
-fn marks(offset: u16) -> u8
-    ensures { λ r. ⌜ Marked offset r ⌝ }
+// The register that an offset lies in has its mark; past the table none has.
+fn marked(marks: u64, offset: u16) -> bool
+    ensures { λ r. ⌜ r ≡ marked marks offset ⌝ }
 {
-    let table = open_table();
-    let row = (offset / 16) as usize;
+    let row = offset / 16;
     if row < 64 {
-        return table[row];
+        return (marks >> row) % 2 == 1;
     }
-    CLOSED
+    false
 }
 
 // The offset may be redirected: its register has the setting's mark.
 fn open_offset(c: Controls, write: bool, offset: u16) -> bool
     ensures { λ r. ⌜ r ≡ openOffset c write offset ⌝ }
 {
-    let row = marks(offset);
-    let first = offset % 16 == 0;
-    let within = offset % 16 < 4;
+    let table = open_table();
     if c.is_on(APIC_REGISTER_VIRTUALIZATION) {
         if write {
-            return within & (row / WRITE % 2 == 1);
+            return (offset % 16 < 4) & marked(table.write, offset);
         }
-        return within & (row / READ % 2 == 1);
+        return (offset % 16 < 4) & marked(table.read, offset);
     }
     if c.is_on(VIRTUAL_DELIVERY) {
-        return first & (row / DELIVERY % 2 == 1);
+        return (offset % 16 == 0) & marked(table.delivery, offset);
     }
-    first & (row % 2 == 1)
+    (offset % 16 == 0) & marked(table.tpr, offset)
 }
 
 // The access ends past the four bytes of its register.
 fn past_register(offset: u16, size: u8) -> bool
     ensures { λ r. ⌜ r ≡ pastRegister offset size ⌝ }
 {
-    4 < offset % 16 + size as u16
+    4 < (offset % 16) as u32 + size as u32
 }
 
 fn access_exits(c: Controls, write: bool, offset: u16, size: u8, fetch: bool, already: bool) -> bool
