@@ -11,7 +11,7 @@ use Rattle.processor.specs.declared.controls.Record.{Record}
 use Rattle.page.specs.Page.{wordOf, wordAt, longAt, wordWithin, longWithin}
 use Rattle.stores.specs.Stores.{setWord, setLong}
 use Rattle.meaning.specs.Widths.{RecordFits}
-use Rattle.capi.specs.RecordBytes.{controlsOf, controlsBytes, reservedZero, recordReadable, recordOf, truthByte, recordBytes}
+use Rattle.capi.specs.RecordBytes.{controlsOf, controlsBytes, reservedZero, recordReadable, recordOf, truthByte, statusBytes, recordBytes}
 
 -- numbers put together again from their bytes
 word-again : (x : ℕ) → x < 2 ^ 32 → wordOf (x % 0x100) (x / 0x100 % 0x100) (x / 0x1_0000 % 0x100) (x / 0x100_0000 % 0x100) ≡ x
@@ -31,6 +31,28 @@ long-again x h = join (word-again (x % 0x1_0000_0000) low) (word-again (x / 0x1_
 
     join : {a b : ℕ} → a ≡ x % 0x1_0000_0000 → b ≡ x / 0x1_0000_0000 → a + 0x1_0000_0000 * b ≡ x
     join e f = omega arith
+
+-- a word's bytes in front of others, and a word put together of bytes taken apart again
+abbrev wordBytes : ℕ → List ℕ → List ℕ
+wordBytes x l = x % 0x100 ∷ x / 0x100 % 0x100 ∷ x / 0x1_0000 % 0x100 ∷ x / 0x100_0000 % 0x100 ∷ l
+
+word-apart : {a b c d : ℕ} {l m : List ℕ} → a < 256 → b < 256 → c < 256 → d < 256 → l ≡ m → wordBytes (wordOf a b c d) l ≡ a ∷ b ∷ c ∷ d ∷ m
+word-apart {a} {b} {c} {d} ha hb hc hd e =
+    let q₁ : wordOf a b c d / 0x100 ≡ b + 0x100 * c + 0x1_0000 * d = omega arith in
+    let q₂ : wordOf a b c d / 0x1_0000 ≡ c + 0x100 * d = omega arith in
+    let q₃ : wordOf a b c d / 0x100_0000 ≡ d = omega arith in
+    let b₀ : wordOf a b c d % 0x100 ≡ a = omega arith in
+    let b₁ : (b + 0x100 * c + 0x1_0000 * d) % 0x100 ≡ b = omega arith in
+    let b₂ : (c + 0x100 * d) % 0x100 ≡ c = omega arith in
+    let b₃ : d % 0x100 ≡ d = omega arith in
+    cc
+
+-- the same of eight bytes
+long-apart : (x y : ℕ) {l m : List ℕ} → x < 2 ^ 32 → wordBytes x (wordBytes y l) ≡ m → wordBytes ((x + 0x1_0000_0000 * y) % 0x1_0000_0000) (wordBytes ((x + 0x1_0000_0000 * y) / 0x1_0000_0000) l) ≡ m
+long-apart x y h e =
+    let low : (x + 0x1_0000_0000 * y) % 0x1_0000_0000 ≡ x = omega arith in
+    let high : (x + 0x1_0000_0000 * y) / 0x1_0000_0000 ≡ y = omega arith in
+    simp (low, high) e
 
 truth-again : (on : Bool) → eqb (truthByte on) 1 ≡ on
 unfolding truthByte
@@ -83,6 +105,30 @@ module _ (f : ℕ → ℕ) (r : Record) where
   unfolding recordBytes controlsBytes setWord setLong
   over-elements s = refl
 
+  -- a word and a long of the bytes
+  abbrev word-at : ℕ → ℕ
+  word-at k = wordOf (f k) (f (k + 1)) (f (k + 2)) (f (k + 3))
+
+  abbrev long-at : ℕ → ℕ
+  long-at k = word-at k + 0x1_0000_0000 * word-at (k + 4)
+
+  -- controls that the bytes hold are stored over themselves
+  status-elements : ((i : ℕ) → f i < 256) → r .controls ≡ controlsOf bytes48 → recordBytes bytes48 r ≡ statusBytes bytes48 r
+  unfolding recordBytes controlsBytes controlsOf setWord setLong wordAt longAt wordWithin longWithin
+  status-elements h e =
+      rw e
+      (ap (λ l. truthByte (r .guest) ∷ r .rvi ∷ r .svi ∷ truthByte (r .recognised) ∷ l)
+      (word 4 (word 8 (ap (λ l. f 12 ∷ f 13 ∷ f 14 ∷ f 15 ∷ l) (long 16 (long 24 (long 32 (long 40 refl))))))))
+    where
+      word : (k : ℕ) {l m : List ℕ} → l ≡ m → wordBytes (word-at k) l ≡ f k ∷ f (k + 1) ∷ f (k + 2) ∷ f (k + 3) ∷ m
+      word k q = word-apart (h k) (h (k + 1)) (h (k + 2)) (h (k + 3)) q
+
+      fits : (k : ℕ) → word-at k < 2 ^ 32
+      fits k = omega (arith, h k, h (k + 1), h (k + 2), h (k + 3))
+
+      long : (k : ℕ) {l m : List ℕ} → l ≡ m → wordBytes (long-at k % 0x1_0000_0000) (wordBytes (long-at k / 0x1_0000_0000) l) ≡ f k ∷ f (k + 1) ∷ f (k + 2) ∷ f (k + 3) ∷ f (k + 4) ∷ f (k + 4 + 1) ∷ f (k + 4 + 2) ∷ f (k + 4 + 3) ∷ m
+      long k q = long-apart (word-at k) (word-at (k + 4)) (fits k) (word k (word (k + 4) q))
+
 module _ (b : List ℕ) (r : Record) (e : length b ≡ 48) where
   each : b ≡ elements (λ i. getD b i 0) 48
   each = as-elements b 48 e
@@ -104,3 +150,8 @@ module _ (b : List ℕ) (r : Record) (e : length b ≡ 48) where
   -- another record stored over it leaves nothing of it
   pub stored-over : (s : Record) → recordBytes (recordBytes b r) s ≡ recordBytes b s
   stored-over s = subst (λ l. recordBytes (recordBytes l r) s ≡ recordBytes l s) (sym each) (over-elements (λ i. getD b i 0) r s)
+
+  -- under the controls that the bytes hold, the record's other fields alone are stored
+  pub stored-status : ((i : ℕ) → getD b i 0 < 256) → r .controls ≡ controlsOf b → recordBytes b r ≡ statusBytes b r
+  stored-status h q =
+      subst (λ l. r .controls ≡ controlsOf l → recordBytes l r ≡ statusBytes l r) (sym each) (status-elements (λ i. getD b i 0) r h) q

@@ -1,7 +1,7 @@
 -- What the exported functions reply, and what they leave in the lent bytes.
 use Prim.Native.Nat.{ℕ}
 use mathlib.Core.Path.{_≡_}
-use mathlib.Core.Bool.{not, _&&_}
+use mathlib.Core.Bool.{Bool, not, _&&_}
 use mathlib.Core.List.{List}
 use lib.Dec.{eqb}
 use lib.ListN.{length, replicate}
@@ -13,6 +13,7 @@ use Rattle.registers.specs.Vectors.{highestSet}
 use Rattle.events.specs.Answers.{numbers, numbersOf}
 use Rattle.events.specs.declared.answer.Numbers.{Numbers}
 use Rattle.events.specs.declared.answer.Outcome.{Outcome}
+use Rattle.events.specs.declared.event.Event.{Event}
 use Rattle.meaning.specs.Input.{given, leaves}
 use Rattle.meaning.specs.After.{After}
 use Rattle.meaning.specs.Step.{step}
@@ -55,6 +56,12 @@ replied b a =
 -- the model's step on a record and an event that can be read
 unfoldable pub modelReply : List ℕ → List ℕ → List ℕ → Reply
 modelReply p b e = replied b (step p (recordOf b) (given (eventOf e)))
+
+-- an event of one kind, on a record that can be read: refusal 2 where its bytes cannot be read
+unfoldable pub kindReply : Bool → Event → List ℕ → List ℕ → Reply
+kindReply readable e p b =
+    if not readable then refused 2 p b
+    else replied b (step p (recordOf b) (given e))
 
 -- Refusal 1: the page isn't 4,096 bytes. 2: record or event aren't 48 bytes each, or cannot be read. The model's refusals follow.
 unfoldable pub ggStep : List ℕ → List ℕ → List ℕ → Reply

@@ -56,15 +56,18 @@ recordOf b =
 unfoldable pub truthByte : Bool → ℕ
 truthByte on = if on then 1 else 0
 
--- the bytes with the record stored; the reserved ones stay
-unfoldable pub recordBytes : List ℕ → Record → List ℕ
-recordBytes b r =
-    controlsBytes (setByte (setByte (setByte (setByte b
+-- the bytes with all of the record but its controls stored
+abbrev pub statusBytes : List ℕ → Record → List ℕ
+statusBytes b r =
+    setByte (setByte (setByte (setByte b
     0 (truthByte (r .guest)))
     1 (r .rvi))
     2 (r .svi))
-    3 (truthByte (r .recognised)))
-    (r .controls)
+    3 (truthByte (r .recognised))
+
+-- the bytes with the record stored; the reserved ones stay
+unfoldable pub recordBytes : List ℕ → Record → List ℕ
+recordBytes b r = controlsBytes (statusBytes b r) (r .controls)
 
 -- the record's own 48 bytes
 abbrev pub bytesOf : Record → List ℕ

@@ -1,9 +1,7 @@
-// One event as 48 bytes.
+// The fields of one event in its 48 bytes.
 ghost use mathlib.Core.Path.{_≡_};
-ghost use Rattle.capi.specs.EventBytes.{memoryReadable, eventReadable, memoryReadOf, memoryWriteOf, toCr8Of, wrmsrOf, boundaryOf, requestOf, eventOf};
-use crate::controls::controls_of;
-use crate::controls::reserved_zero;
-use events::event::Event;
+ghost use Prim.Native.Nat.{_%_};
+ghost use Rattle.capi.specs.EventBytes.{kindOf, sizeOf, flagsOf, detailOf, numberOf, valueOf, memoryReadable};
 use page::bytes::byte_at;
 use page::bytes::long_within;
 use page::bytes::word_within;
@@ -20,105 +18,52 @@ const NUMBER: u16 = 4;
 
 const VALUE: u16 = 8;
 
+pub fn kind_of(event: &[u8]) -> u8
+    ensures { λ r. ⌜ r ≡ kindOf (now (event .entry)) ⌝ }
+{
+    byte_at(event, KIND)
+}
+
+pub fn size_of(event: &[u8]) -> u8
+    ensures { λ r. ⌜ r ≡ sizeOf (now (event .entry)) ⌝ }
+{
+    byte_at(event, SIZE)
+}
+
+pub fn flags_of(event: &[u8]) -> u8
+    ensures { λ r. ⌜ r ≡ flagsOf (now (event .entry)) ⌝ }
+{
+    byte_at(event, FLAGS)
+}
+
+pub fn detail_of(event: &[u8]) -> u8
+    ensures { λ r. ⌜ r ≡ detailOf (now (event .entry)) ⌝ }
+{
+    byte_at(event, DETAIL)
+}
+
+pub fn number_of(event: &[u8]) -> u32
+    ensures { λ r. ⌜ r ≡ numberOf (now (event .entry)) ⌝ }
+{
+    word_within(event, NUMBER)
+}
+
+// A number that stands for an offset or a vector has 16 bits.
+pub fn short_of(event: &[u8]) -> u16
+    ensures { λ r. ⌜ r ≡ numberOf (now (event .entry)) % 0x1_0000 ⌝ }
+{
+    (word_within(event, NUMBER) % 0x1_0000) as u16
+}
+
+pub fn value_of(event: &[u8]) -> u64
+    ensures { λ r. ⌜ r ≡ valueOf (now (event .entry)) ⌝ }
+{
+    long_within(event, VALUE)
+}
+
 // No bit that a memory access does not name, and an offset that fits 16 bits.
-fn memory_readable(event: &[u8]) -> bool
+pub fn memory_readable(event: &[u8]) -> bool
     ensures { λ r. ⌜ r ≡ memoryReadable (now (event .entry)) ⌝ }
 {
-    (byte_at(event, FLAGS) < 4) & (word_within(event, NUMBER) < 0x1_0000)
-}
-
-// Kinds 1 to 9, and every field such that the model's event can hold it.
-pub fn event_readable(event: &[u8]) -> bool
-    ensures { λ r. ⌜ r ≡ eventReadable (now (event .entry)) ⌝ }
-{
-    match byte_at(event, KIND) {
-        1 => reserved_zero(event),
-        2 => memory_readable(event),
-        3 => memory_readable(event),
-        4 => long_within(event, VALUE) < 0x100,
-        5 => true,
-        6 => true,
-        7 => true,
-        8 => byte_at(event, FLAGS) < 8,
-        9 => word_within(event, NUMBER) < 0x1_0000,
-        _ => false,
-    }
-}
-
-fn memory_read_of(event: &[u8]) -> Event
-    ensures { λ r. ⌜ r ≡ memoryReadOf (now (event .entry)) ⌝ }
-{
-    let flags = byte_at(event, FLAGS);
-    Event::MemoryRead {
-        offset: (word_within(event, NUMBER) % 0x1_0000) as u16,
-        size: byte_at(event, SIZE),
-        fetch: flags % 2 == 1,
-        already: flags / 2 % 2 == 1,
-    }
-}
-
-fn memory_write_of(event: &[u8]) -> Event
-    ensures { λ r. ⌜ r ≡ memoryWriteOf (now (event .entry)) ⌝ }
-{
-    let flags = byte_at(event, FLAGS);
-    Event::MemoryWrite {
-        offset: (word_within(event, NUMBER) % 0x1_0000) as u16,
-        size: byte_at(event, SIZE),
-        fetch: flags % 2 == 1,
-        already: flags / 2 % 2 == 1,
-        value: long_within(event, VALUE),
-    }
-}
-
-fn to_cr8_of(event: &[u8]) -> Event
-    ensures { λ r. ⌜ r ≡ toCr8Of (now (event .entry)) ⌝ }
-{
-    Event::ToCr8 {
-        value: (long_within(event, VALUE) % 0x100) as u8,
-        register: byte_at(event, DETAIL),
-    }
-}
-
-fn wrmsr_of(event: &[u8]) -> Event
-    ensures { λ r. ⌜ r ≡ wrmsrOf (now (event .entry)) ⌝ }
-{
-    Event::Wrmsr {
-        index: word_within(event, NUMBER),
-        value: long_within(event, VALUE),
-    }
-}
-
-fn boundary_of(event: &[u8]) -> Event
-    ensures { λ r. ⌜ r ≡ boundaryOf (now (event .entry)) ⌝ }
-{
-    let flags = byte_at(event, FLAGS);
-    Event::Boundary {
-        interrupts: flags % 2 == 1,
-        sti: flags / 2 % 2 == 1,
-        mov_ss: flags / 4 % 2 == 1,
-        activity: byte_at(event, DETAIL),
-    }
-}
-
-fn request_of(event: &[u8]) -> Event
-    ensures { λ r. ⌜ r ≡ requestOf (now (event .entry)) ⌝ }
-{
-    Event::Request((word_within(event, NUMBER) % 0x1_0000) as u16)
-}
-
-// The event by its kind; no other kind than 9 is left for the request once the bytes are readable.
-pub fn event_of(event: &[u8]) -> Event
-    ensures { λ r. ⌜ r ≡ eventOf (now (event .entry)) ⌝ }
-{
-    match byte_at(event, KIND) {
-        1 => Event::Entry(controls_of(event)),
-        2 => memory_read_of(event),
-        3 => memory_write_of(event),
-        4 => to_cr8_of(event),
-        5 => Event::FromCr8(byte_at(event, DETAIL)),
-        6 => Event::Rdmsr(word_within(event, NUMBER)),
-        7 => wrmsr_of(event),
-        8 => boundary_of(event),
-        _ => request_of(event),
-    }
+    (flags_of(event) < 4) & (number_of(event) < 0x1_0000)
 }

@@ -2,66 +2,29 @@
 ghost use mathlib.Core.Path.{_≡_};
 ghost use mathlib.Core.List.{List};
 ghost use Prim.Native.Nat.{ℕ};
-ghost use Rattle.events.specs.Answers.{numbers as numbersFor};
-ghost use Rattle.capi.specs.Calls.{Told, Handed, Replies, FreshReplies, modelReply, ggStep, leaveReply, ggLeave, foundNumbers, ggHighest, ggFresh};
-use event_bytes::event_of;
-use event_bytes::event_readable;
+ghost use lib.ListN.{length};
+ghost use Rattle.capi.specs.Calls.{Handed, Replies, FreshReplies, ggStep, leaveReply, ggLeave, foundNumbers, ggHighest, ggFresh};
 use events::answer::Numbers;
-use events::answer::Outcome;
-use events::answer::numbers_of;
+use kinds::kind_reply;
 use processor::offsets::VIRR;
 use processor::offsets::VISR;
 use records::clear;
-use records::keep;
 use records::record_of;
 use records::record_readable;
 use registers::found::Found;
 use registers::vectors::highest_request;
 use registers::vectors::highest_service;
+use replies::hand_over;
+use replies::refused;
+use replies::told_status;
 
 mod controls;
 mod event_bytes;
+mod kinds;
 mod records;
+mod replies;
 
-fn refused(number: u64) -> Numbers
-    ensures { λ r. ⌜ r ≡ numbersFor 0 number 0 ⌝ }
-{
-    Numbers {
-        answer: 0,
-        first: number,
-        second: 0,
-    }
-}
-
-// The outcome's numbers; the record's bytes take its record where the answer changes it.
-fn told(record: &mut [u8], outcome: Outcome) -> Numbers
-    ensures { λ r. ⌜ Told outcome (now («record» .entry)) r (now («record» .exit)) ⌝ }
-{
-    let answer = outcome.answer;
-    let state = outcome.record;
-    let numbers = numbers_of(answer);
-    keep(record, numbers.answer, state);
-    numbers
-}
-
-// The answer's number; its two values go to first and second.
-fn hand_over(numbers: Numbers, first: &mut u64, second: &mut u64) -> u32
-    ensures { λ r. ⌜ Handed numbers r (now (first .exit)) (now (second .exit)) ⌝ }
-{
-    *first = numbers.first;
-    *second = numbers.second;
-    numbers.answer
-}
-
-// The model's step on a record and an event that can be read.
-fn model_reply(page: &mut [u8], record: &mut [u8], event: &[u8]) -> Numbers
-    ensures { λ r. ⌜ Replies (modelReply (now (page .entry)) (now («record» .entry)) (now (event .entry))) (r .answer) (r .first) (r .second) (now («record» .exit)) (now (page .exit)) ⌝ }
-{
-    let outcome = model::step(page, record_of(record), event_of(event));
-    told(record, outcome)
-}
-
-// Refusals 1 and 2 of what cannot be read; the model decides on the rest.
+// Refusals 1 and 2 of what cannot be read; the event by its kind.
 fn step_bytes(page: &mut [u8], record: &mut [u8], event: &[u8]) -> Numbers
     ensures { λ r. ⌜ Replies (ggStep (now (page .entry)) (now («record» .entry)) (now (event .entry))) (r .answer) (r .first) (r .second) (now («record» .exit)) (now (page .exit)) ⌝ }
 {
@@ -74,11 +37,10 @@ fn step_bytes(page: &mut [u8], record: &mut [u8], event: &[u8]) -> Numbers
     if event.len() != 48 {
         return refused(2);
     }
-    let readable = record_readable(record) & event_readable(event);
-    if !readable {
+    if !record_readable(record) {
         return refused(2);
     }
-    model_reply(page, record, event)
+    kind_reply(page, record, event)
 }
 
 // One event on a page and a record: the answer's number comes back, its two values go to first and second.
@@ -97,10 +59,11 @@ pub extern "C" fn gg_step(
 
 // The guest of a record that can be read leaves.
 fn leave_reply(record: &mut [u8]) -> Numbers
+    requires { ⌜ length (now «record») ≡ 48 ⌝ }
     ensures { λ r. ⌜ ((p : List ℕ) → Replies (leaveReply p (now («record» .entry))) (r .answer) (r .first) (r .second) (now («record» .exit)) p) ⌝ }
 {
     let outcome = model::leave(record_of(record));
-    told(record, outcome)
+    told_status(record, outcome)
 }
 
 // Refusal 2 of what cannot be read; the model decides on the rest.

@@ -1,7 +1,7 @@
 // The processor record as 48 bytes.
 ghost use mathlib.Core.Path.{_≡_};
 ghost use lib.ListN.{length, replicate};
-ghost use Rattle.capi.specs.RecordBytes.{recordReadable, recordOf, truthByte, recordBytes, kept};
+ghost use Rattle.capi.specs.RecordBytes.{controlsOf, recordReadable, recordOf, truthByte, statusBytes, recordBytes, kept};
 use crate::controls::controls_bytes;
 use crate::controls::controls_of;
 use crate::controls::reserved_zero;
@@ -45,15 +45,22 @@ fn truth_byte(on: bool) -> u8
     0
 }
 
+// The bytes take mode, RVI, SVI and recognition.
+fn status_bytes(bytes: &mut [u8], state: Record)
+    ensures { λ _. ⌜ now (bytes .exit) ≡ statusBytes (now (bytes .entry)) state ⌝ }
+{
+    set_byte(bytes, MODE, truth_byte(state.guest));
+    set_byte(bytes, RVI, state.rvi);
+    set_byte(bytes, SVI, state.svi);
+    set_byte(bytes, RECOGNISED, truth_byte(state.recognised));
+}
+
 // The bytes take the record.
 fn record_bytes(bytes: &mut [u8], state: Record)
     ensures { λ _. ⌜ now (bytes .exit) ≡ recordBytes (now (bytes .entry)) state ⌝ }
 {
     let controls = state.controls;
-    set_byte(bytes, MODE, truth_byte(state.guest));
-    set_byte(bytes, RVI, state.rvi);
-    set_byte(bytes, SVI, state.svi);
-    set_byte(bytes, RECOGNISED, truth_byte(state.recognised));
+    status_bytes(bytes, state);
     controls_bytes(bytes, controls);
 }
 
@@ -65,6 +72,17 @@ pub fn keep(bytes: &mut [u8], answer: u32, state: Record)
         return;
     }
     record_bytes(bytes, state);
+}
+
+// The same of a record whose controls are those that the bytes hold: its other fields alone are stored.
+pub fn keep_status(bytes: &mut [u8], answer: u32, state: Record)
+    requires { ⌜ (length (now bytes) ≡ 48) × (state .controls ≡ controlsOf (now bytes)) ⌝ }
+    ensures { λ _. ⌜ now (bytes .exit) ≡ kept (now (bytes .entry)) answer state ⌝ }
+{
+    if answer < 4 {
+        return;
+    }
+    status_bytes(bytes, state);
 }
 
 // Every byte becomes 0.

@@ -1,6 +1,12 @@
 // The events, at widths that can hold what a recorder writes down, and their bounds.
 ghost use mathlib.Core.Path.{_≡_};
-ghost use Rattle.events.specs.Events.{sizeInBounds, valueInBounds, eventInBounds, inBounds, rootOnly, allowed};
+ghost use Rattle.events.specs.Events.{eventInBounds, inBounds, rootOnly, allowed};
+use crate::bounds::boundary_in_bounds;
+use crate::bounds::from_cr8_in_bounds;
+use crate::bounds::memory_read_in_bounds;
+use crate::bounds::memory_write_in_bounds;
+use crate::bounds::request_in_bounds;
+use crate::bounds::to_cr8_in_bounds;
 use processor::controls::Controls;
 use processor::controls::Record;
 
@@ -38,49 +44,28 @@ pub enum Event {
     },
 }
 
-fn size_in_bounds(size: u8) -> bool
-    ensures { λ r. ⌜ r ≡ sizeInBounds size ⌝ }
-{
-    (size == 1) | (size == 2) | (size == 4) | (size == 8)
-}
-
-fn value_in_bounds(size: u8, value: u64) -> bool
-    ensures { λ r. ⌜ r ≡ valueInBounds size value ⌝ }
-{
-    if size == 1 {
-        return value < 0x100;
-    }
-    if size == 2 {
-        return value < 0x1_0000;
-    }
-    if size == 4 {
-        return value < 0x1_0000_0000;
-    }
-    size == 8
-}
-
 // Every field of the event is within its bounds.
 fn event_in_bounds(event: Event) -> bool
     ensures { λ r. ⌜ r ≡ eventInBounds event ⌝ }
 {
     match event {
         Event::Entry(controls) => controls.flags_in_bounds(),
-        Event::Request(vector) => vector < 256,
+        Event::Request(vector) => request_in_bounds(vector),
         Event::MemoryRead {
             offset,
             size,
             fetch: _,
             already: _,
-        } => (offset < 4096) & size_in_bounds(size),
+        } => memory_read_in_bounds(offset, size),
         Event::MemoryWrite {
             offset,
             size,
             fetch,
             already: _,
             value,
-        } => (offset < 4096) & value_in_bounds(size, value) & !fetch,
-        Event::ToCr8 { value, register } => (value < 16) & (register < 16),
-        Event::FromCr8(register) => register < 16,
+        } => memory_write_in_bounds(offset, size, fetch, value),
+        Event::ToCr8 { value, register } => to_cr8_in_bounds(value, register),
+        Event::FromCr8(register) => from_cr8_in_bounds(register),
         Event::Rdmsr(_) => true,
         Event::Wrmsr { index: _, value: _ } => true,
         Event::Boundary {
@@ -88,7 +73,7 @@ fn event_in_bounds(event: Event) -> bool
             sti: _,
             mov_ss: _,
             activity,
-        } => activity < 4,
+        } => boundary_in_bounds(activity),
     }
 }
 

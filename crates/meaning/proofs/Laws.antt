@@ -86,13 +86,16 @@ module _ (p : List ℕ) (r : Record) (i : Input) where
   taken (delivering m t y) = inl refl
   taken (leaving e) = inl refl
 
-  controls-fit : ControlsFit (r .controls) → InputFits i → ControlsFit (step p r i .state .controls)
+  pub controls-after : (step p r i .state .controls ≡ r .controls) ⊎ (i ≡ given (Entry (step p r i .state .controls)))
   unfolding step
-  controls-fit f o = by (refusalOf p r i) refl
+  controls-after = by (refusalOf p r i) refl
     where
-      by : (x : Refusal) → refusalOf p r i ≡ x → ControlsFit (stepBy x p r i .state .controls)
-      by None e = unfold stepBy in ⊎-elim (λ q. subst ControlsFit (sym q) f) (λ q. o _ q) (taken (ends p r i e))
-      by (By number check) e = unfold stepBy in f
+      by : (x : Refusal) → refusalOf p r i ≡ x → (stepBy x p r i .state .controls ≡ r .controls) ⊎ (i ≡ given (Entry (stepBy x p r i .state .controls)))
+      by None e = unfold stepBy in taken (ends p r i e)
+      by (By number check) e = unfold stepBy in inl refl
+
+  controls-fit : ControlsFit (r .controls) → InputFits i → ControlsFit (step p r i .state .controls)
+  controls-fit f o = ⊎-elim (λ q. subst ControlsFit (sym q) f) (λ q. o _ q) controls-after
 
   -- what an input leaves fits, where what it was given fits
   pub fits : IsPage p → RecordFits r → InputFits i → RecordFits (step p r i .state)

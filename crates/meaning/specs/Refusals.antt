@@ -47,11 +47,14 @@ abbrev pub checkOf : Input → ℕ
 checkOf (given e) = eventCheck e
 checkOf leaves = 0
 
--- Tested in the order 1, 2, 3, 4, and given in no other case.
-unfoldable pub refusalOf : List ℕ → Record → Input → Refusal
-refusalOf p r i =
-    if not (pageFits p i) then By 1 0
-    else if not (fieldsFit r i) then By 2 0
-    else if not (modeFits r i) then By 3 0
-    else if not (eqb (checkOf i) 0) then By 4 (checkOf i)
+-- Tested in the order 1, 2, 3, 4, and given in no other case: the refusal of the first test that does not pass.
+abbrev pub firstRefusal : Bool → Bool → Bool → ℕ → Refusal
+firstRefusal page fields mode check =
+    if not page then By 1 0
+    else if not fields then By 2 0
+    else if not mode then By 3 0
+    else if not (eqb check 0) then By 4 check
     else None
+
+unfoldable pub refusalOf : List ℕ → Record → Input → Refusal
+refusalOf p r i = firstRefusal (pageFits p i) (fieldsFit r i) (modeFits r i) (checkOf i)

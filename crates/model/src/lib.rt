@@ -1,10 +1,7 @@
 // The model: one input at a time on a lent page.
-ghost use mathlib.Core.Path.{_≡_};
 ghost use Rattle.meaning.specs.After.{Leaves};
 ghost use Rattle.meaning.specs.Input.{given, leaves};
-ghost use Rattle.meaning.specs.Step.{eventOut, step as stepOf};
-ghost use Rattle.events.specs.Events.{eventInBounds};
-ghost use mathlib.Core.Bool.{true};
+ghost use Rattle.meaning.specs.Step.{step as stepOf};
 ghost use mathlib.Core.List.{List};
 ghost use Prim.Native.Nat.{ℕ};
 use events::answer::Outcome;
@@ -15,6 +12,7 @@ use processor::controls::Record;
 mod boundary;
 mod cr8;
 mod entry;
+pub mod kinds;
 mod memory;
 mod msr;
 mod outcome;
@@ -27,47 +25,36 @@ pub use processor::controls::fresh_record;
 pub use refusals::list::leave_refusal_of;
 pub use refusals::list::refusal_of;
 
-fn carry_out(page: &mut [u8], record: Record, event: Event) -> Outcome
-    requires { ⌜ eventInBounds event ≡ true ⌝ }
-    ensures { λ r. ⌜ Leaves (eventOut (now (page .entry)) «record» event) r (now (page .exit)) ⌝ }
+// Carries out one event on any page slice and any record, or refuses it by its number.
+pub fn step(page: &mut [u8], record: Record, event: Event) -> Outcome
+    ensures { λ r. ⌜ Leaves (stepOf (now (page .entry)) «record» (given event)) r (now (page .exit)) ⌝ }
 {
     match event {
-        Event::Entry(controls) => entry::entry(page, record, controls),
-        Event::Request(vector) => entry::request(page, record, (vector % 256) as u8),
+        Event::Entry(controls) => kinds::entry(page, record, controls),
+        Event::Request(vector) => kinds::request(page, record, vector),
         Event::MemoryRead {
             offset,
             size,
             fetch,
             already,
-        } => memory::memory_read(page, record, offset, size, fetch, already),
+        } => kinds::memory_read(page, record, offset, size, fetch, already),
         Event::MemoryWrite {
             offset,
             size,
             fetch,
             already,
             value,
-        } => memory::memory_write(page, record, offset, size, fetch, already, value),
-        Event::ToCr8 { value, register } => cr8::mov_to_cr8(page, record, value, register),
-        Event::FromCr8(register) => cr8::mov_from_cr8(page, record, register),
-        Event::Rdmsr(index) => msr::read_msr(page, record, index),
-        Event::Wrmsr { index, value } => msr::write_msr(page, record, index, value),
+        } => kinds::memory_write(page, record, offset, size, fetch, already, value),
+        Event::ToCr8 { value, register } => kinds::to_cr8(page, record, value, register),
+        Event::FromCr8(register) => kinds::from_cr8(page, record, register),
+        Event::Rdmsr(index) => kinds::rdmsr(page, record, index),
+        Event::Wrmsr { index, value } => kinds::wrmsr(page, record, index, value),
         Event::Boundary {
             interrupts,
             sti,
             mov_ss,
             activity,
-        } => boundary::boundary(page, record, interrupts, sti, mov_ss, activity),
-    }
-}
-
-// Carries out one event on any page slice and any record, or refuses it by its number.
-pub fn step(page: &mut [u8], record: Record, event: Event) -> Outcome
-    ensures { λ r. ⌜ Leaves (stepOf (now (page .entry)) «record» (given event)) r (now (page .exit)) ⌝ }
-{
-    let refusal = refusal_of(page, record, event);
-    match refusal {
-        Refusal::None => carry_out(page, record, event),
-        Refusal::By { number, check } => outcome::refused(record, number, check),
+        } => kinds::boundary(page, record, interrupts, sti, mov_ss, activity),
     }
 }
 

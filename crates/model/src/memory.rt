@@ -68,7 +68,8 @@ fn follow(page: &mut [u8], record: Record, offset: u16, following: Following) ->
         }
         Following::Eoi => {
             set_word(page, VEOI, 0);
-            let next = retired(page, record);
+            let mut next = record;
+            next.svi = retired(page, record.svi);
             eoi_end(page, next, record.svi)
         }
         Following::SelfIpi => {

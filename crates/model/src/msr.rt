@@ -40,7 +40,8 @@ fn follow_msr(page: &mut [u8], record: Record, index: u32, value: u64, write: Ms
         }
         MsrWrite::Eoi => {
             set_long(page, msr_offset(index), value);
-            let next = retired(page, record);
+            let mut next = record;
+            next.svi = retired(page, record.svi);
             eoi_end(page, next, record.svi)
         }
         MsrWrite::SelfIpi => {

@@ -1,7 +1,9 @@
 // The five procedures.
 ghost use mathlib.Core.Path.{_≡_};
 ghost use Rattle.meaning.specs.After.{Leaves};
-ghost use Rattle.meaning.specs.Procedures.{pprVirtualization, evaluation as evaluationOf, evaluatedQuiet, tprVirtualization, retiredPage, retiredRecord, eoiEnd, requestedRecord, selfIpiVirtualization};
+ghost use Rattle.meaning.specs.Procedures.{pprVirtualization, evaluation as evaluationOf, evaluatedQuiet, tprVirtualization, eoiEnd, requestedRecord, selfIpiVirtualization};
+ghost use Rattle.processor.specs.Offsets.{visr};
+ghost use Rattle.registers.specs.Vectors.{clearVector, highest};
 use crate::outcome::exit;
 use crate::outcome::quiet;
 use events::answer::Outcome;
@@ -59,14 +61,12 @@ pub fn tpr_virtualization(page: &mut [u8], record: Record) -> Outcome
     quiet(record)
 }
 
-// EOI virtualization up to the new SVI: the VISR bit of the old one cleared, and the highest in VISR.
-pub fn retired(page: &mut [u8], record: Record) -> Record
-    ensures { λ r. ⌜ (now (page .exit) ≡ retiredPage (now (page .entry)) «record») × (r ≡ retiredRecord (now (page .entry)) «record») ⌝ }
+// EOI virtualization up to the new SVI: the VISR bit of the old one cleared; the highest in VISR.
+pub fn retired(page: &mut [u8], old: u8) -> u8
+    ensures { λ r. ⌜ (now (page .exit) ≡ clearVector (now (page .entry)) visr old) × (r ≡ highest (now (page .exit)) visr) ⌝ }
 {
-    put_vector(page, VISR, record.svi, false);
-    let mut next = record;
-    next.svi = highest_service(page).or(NONE_COUNTS_AS);
-    next
+    put_vector(page, VISR, old, false);
+    highest_service(page).or(NONE_COUNTS_AS)
 }
 
 // EOI virtualization from there on: PPR virtualization, then exit 45 by the old SVI, or evaluation.

@@ -1,9 +1,13 @@
 // The ordered list of refusals, of an event and of a guest that leaves.
 ghost use mathlib.Core.Path.{_≡_};
+ghost use mathlib.Core.Bool.{not, _&&_};
 ghost use mathlib.Core.List.{List};
 ghost use Prim.Native.Nat.{ℕ};
+ghost use lib.Dec.{eqb};
+ghost use lib.ListN.{length};
+ghost use Rattle.processor.specs.Controls.{flagsInBounds};
 ghost use Rattle.meaning.specs.Input.{given, leaves};
-ghost use Rattle.meaning.specs.Refusals.{eventCheck, refusalOf};
+ghost use Rattle.meaning.specs.Refusals.{eventCheck, firstRefusal, refusalOf};
 use events::answer::Refusal;
 use events::event::Event;
 use events::event::in_bounds;
@@ -30,9 +34,9 @@ fn check_of(event: Event) -> u8
     failing_check(controls)
 }
 
-// Which refusal an event gets on a page and a record, with its check, or none.
-pub fn refusal_of(page: &[u8], record: Record, event: Event) -> Refusal
-    ensures { λ r. ⌜ r ≡ refusalOf (now (page .entry)) «record» (given event) ⌝ }
+// The refusals in their order, by what each test says.
+fn first_refusal(page: &[u8], fields: bool, mode: bool, check: u8) -> Refusal
+    ensures { λ r. ⌜ r ≡ firstRefusal (eqb (length (now (page .entry))) 4096) fields mode check ⌝ }
 {
     if page.len() != 4096 {
         return Refusal::By {
@@ -40,19 +44,18 @@ pub fn refusal_of(page: &[u8], record: Record, event: Event) -> Refusal
             check: 0,
         };
     }
-    if !in_bounds(record, event) {
+    if !fields {
         return Refusal::By {
             number: BOUNDS,
             check: 0,
         };
     }
-    if !is_allowed(record, event) {
+    if !mode {
         return Refusal::By {
             number: MODE,
             check: 0,
         };
     }
-    let check = check_of(event);
     if check != 0 {
         return Refusal::By {
             number: ENTRY_CHECK,
@@ -60,6 +63,39 @@ pub fn refusal_of(page: &[u8], record: Record, event: Event) -> Refusal
         };
     }
     Refusal::None
+}
+
+// Which refusal an event of guest mode gets whose own fields fit, or don't.
+pub fn guest_refusal(page: &[u8], record: Record, fits: bool) -> Refusal
+    ensures { λ r. ⌜ r ≡ firstRefusal (eqb (length (now (page .entry))) 4096) (flagsInBounds («record» .controls) && fits) («record» .guest) 0 ⌝ }
+{
+    let controls = record.controls;
+    first_refusal(page, controls.flags_in_bounds() & fits, record.guest, 0)
+}
+
+// Which refusal an event of root mode gets whose own fields fit, or don't, and of which a check fails, or none.
+pub fn root_refusal(page: &[u8], record: Record, fits: bool, check: u8) -> Refusal
+    ensures { λ r. ⌜ r ≡ firstRefusal (eqb (length (now (page .entry))) 4096) (flagsInBounds («record» .controls) && fits) (not («record» .guest)) check ⌝ }
+{
+    let controls = record.controls;
+    first_refusal(
+        page,
+        controls.flags_in_bounds() & fits,
+        !record.guest,
+        check,
+    )
+}
+
+// Which refusal an event gets on a page and a record, with its check, or none.
+pub fn refusal_of(page: &[u8], record: Record, event: Event) -> Refusal
+    ensures { λ r. ⌜ r ≡ refusalOf (now (page .entry)) «record» (given event) ⌝ }
+{
+    first_refusal(
+        page,
+        in_bounds(record, event),
+        is_allowed(record, event),
+        check_of(event),
+    )
 }
 
 // Which refusal a guest that leaves gets on a record, on whatever page, or none.

@@ -36,6 +36,6 @@ leave-bytes-spec =
     (λ c κs. tt)
     (λ c. search needs)
     returns-2
-    (λ c κs. tt)
+    (λ c κs. search needs)
     (λ c. search needs)
     returns-3)

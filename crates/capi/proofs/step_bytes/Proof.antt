@@ -1,7 +1,7 @@
 -- `capi::step_bytes` meets its contract: code and definition take the same cases. Assumes nothing.
 use Rattle.capi.proofs.Reply.{refusal}
-use borrow.Author.Tests.{eq-eqb, ne-eqb}
-use Rattle.capi.specs.Calls.{ggStep}
+use borrow.Author.Tests.{eq-eqb, ne-eqb, not-true, not-false}
+use Rattle.capi.specs.Calls.{modelReply, kindReply, ggStep}
 use borrow.Author.Needs.{needs}
 use Rattle.capi.proofs.step_bytes.Statement.{statement}
 use Rattle.capi.proofs.step_bytes.Tie as tie
@@ -21,19 +21,19 @@ returns-3 c = simp (eq-eqb _ _ (c .before .before .before .if1 .left), eq-eqb _ 
 returns-4 : tie.Need-returns-4
 unfolding ggStep
 returns-4 c =
-    let unreadable = c .before in
-    let lengths = unreadable .before .before .before .before in
-    simp (eq-eqb _ _ (lengths .before .before .if1 .left), eq-eqb _ _ (lengths .before .if2 .left), eq-eqb _ _ (lengths .if3 .left), ← (unreadable .before .before .record-readable .ensures), ← (unreadable .before .event-readable .ensures), unreadable .if4 .taken)
+    let at-readable = c .before .before in
+    let lengths = at-readable .before .before in
+    simp (eq-eqb _ _ (lengths .before .before .if1 .left), eq-eqb _ _ (lengths .before .if2 .left), eq-eqb _ _ (lengths .if3 .left), ← (at-readable .record-readable .ensures), not-true (at-readable .record-readable .result) (c .before .if4 .taken))
     (refusal 2 _ _ _ (c .refused4 .ensures))
 
 returns-5 : tie.Need-returns-5
-unfolding ggStep
+unfolding ggStep modelReply kindReply
 returns-5 c =
     let at-reply = c .before .before .before .before in
     let readable = at-reply .before .before .before in
-    let lengths = readable .before .before .before .before in
-    simp (eq-eqb _ _ (lengths .before .before .if1 .left), eq-eqb _ _ (lengths .before .if2 .left), eq-eqb _ _ (lengths .if3 .left), ← (readable .before .before .record-readable .ensures), ← (readable .before .event-readable .ensures), readable .if4 .left)
-    (at-reply .model-reply .ensures)
+    let lengths = readable .before .before .before in
+    simp (eq-eqb _ _ (lengths .before .before .if1 .left), eq-eqb _ _ (lengths .before .if2 .left), eq-eqb _ _ (lengths .if3 .left), ← (readable .before .record-readable .ensures), not-false (readable .before .record-readable .result) (readable .if4 .left))
+    (at-reply .kind-reply .ensures)
 
 pub step-bytes-spec : {M : Type 1} → statement M
 step-bytes-spec =
@@ -47,10 +47,9 @@ step-bytes-spec =
     returns-3
     (λ c κs. tt)
     (λ c κs. tt)
-    (λ c κs. tt)
     (λ c. search needs)
     returns-4
-    (λ c κs. tt)
+    (λ c κs. search needs)
     (λ c. search needs)
     (λ c. search needs)
     returns-5)

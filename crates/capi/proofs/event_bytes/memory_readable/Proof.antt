@@ -5,7 +5,7 @@ use Rattle.capi.proofs.event_bytes.memory_readable.Tie as tie
 
 returns : tie.Need-returns
 unfolding memoryReadable
-returns c = simp (← (c .before .byte-at .ensures), ← (c .word-within .ensures))
+returns c = simp (← (c .before .flags-of .ensures), ← (c .number-of .ensures))
 
 pub memory-readable-spec : {M : Type 1} → statement M
 memory-readable-spec = tie.close (tie.spec (λ c κs. tt) (λ c κs. tt) returns)

@@ -7,23 +7,8 @@ use Rattle.capi.proofs.records.record_bytes.Tie as tie
 returns : tie.Need-returns
 unfolding recordBytes
 returns c =
-    let at-controls-bytes = c .before .before in
-    let at-set-byte4 = at-controls-bytes .before .before .before .before in
-    let at-set-byte3 = at-set-byte4 .before .before .before .before .before in
-    let at-set-byte2 = at-set-byte3 .before .before .before .before in
-    let at-set-byte = at-set-byte2 .before .before .before .before in
-    simp ((at-controls-bytes .controls-bytes .ensures), (at-set-byte4 .set-byte4 .ensures), (at-set-byte3 .set-byte3 .ensures), (at-set-byte2 .set-byte2 .ensures), (at-set-byte .set-byte .ensures), (at-set-byte .before .truth-byte .ensures), (at-set-byte4 .before .truth-byte2 .ensures))
+    let at-controls = c .before .before in
+    simp (← (at-controls .before .before .before .before .status-bytes .ensures)) (at-controls .controls-bytes .ensures)
 
 pub record-bytes-spec : {M : Type 1} → statement M
-record-bytes-spec =
-    tie.close
-    (tie.spec
-    (λ c κs. tt)
-    (λ c κs. tt)
-    (λ c κs. tt)
-    (λ c κs. tt)
-    (λ c κs. tt)
-    (λ c κs. tt)
-    (λ c κs. tt)
-    (λ c. search needs)
-    returns)
+record-bytes-spec = tie.close (tie.spec (λ c κs. tt) (λ c κs. tt) (λ c. search needs) returns)

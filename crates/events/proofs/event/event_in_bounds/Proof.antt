@@ -10,23 +10,23 @@ returns c = simp (c .before .before .event .given .1, ← (c .flags-in-bounds .e
 
 returns-2 : tie.Need-returns-2
 unfolding eventInBounds
-returns-2 c = simp (c .before .event2 .given .1)
+returns-2 c = simp (c .before .before .event2 .given .1, ← (c .request-in-bounds .ensures))
 
 returns-3 : tie.Need-returns-3
 unfolding eventInBounds
-returns-3 c = simp (c .before .before .event3 .given .1, ← (c .size-in-bounds .ensures))
+returns-3 c = simp (c .before .before .event3 .given .1, ← (c .memory-read-in-bounds .ensures))
 
 returns-4 : tie.Need-returns-4
 unfolding eventInBounds
-returns-4 c = simp (c .before .before .event4 .given .1, ← (c .value-in-bounds .ensures))
+returns-4 c = simp (c .before .before .event4 .given .1, ← (c .memory-write-in-bounds .ensures))
 
 returns-5 : tie.Need-returns-5
 unfolding eventInBounds
-returns-5 c = simp (c .before .event5 .given .1)
+returns-5 c = simp (c .before .before .event5 .given .1, ← (c .to-cr8-in-bounds .ensures))
 
 returns-6 : tie.Need-returns-6
 unfolding eventInBounds
-returns-6 c = simp (c .before .event6 .given .1)
+returns-6 c = simp (c .before .before .event6 .given .1, ← (c .from-cr8-in-bounds .ensures))
 
 returns-7 : tie.Need-returns-7
 unfolding eventInBounds
@@ -38,7 +38,7 @@ returns-8 c = simp (c .enum-told2 .given .1)
 
 returns-9 : tie.Need-returns-9
 unfolding eventInBounds
-returns-9 c = simp (c .before .event7 .given .1)
+returns-9 c = simp (c .before .before .event7 .given .1, ← (c .boundary-in-bounds .ensures))
 
 pub event-in-bounds-spec : {M : Type 1} → statement M
 event-in-bounds-spec =
@@ -47,15 +47,19 @@ event-in-bounds-spec =
     (λ c. search needs)
     (λ c κs. tt)
     (λ c. search needs)
+    (λ c κs. tt)
+    (λ c. search needs)
+    (λ c κs. tt)
     (λ c. search needs)
     (λ c κs. tt)
     (λ c. search needs)
     (λ c κs. tt)
     (λ c. search needs)
+    (λ c κs. tt)
     (λ c. search needs)
     (λ c. search needs)
     (λ c. search needs)
-    (λ c. search needs)
+    (λ c κs. tt)
     returns
     returns-2
     returns-3

@@ -1,6 +1,6 @@
 -- `model::memory::follow` meets its contract: code and definition take the same cases. Assumes nothing.
 use Rattle.meaning.specs.Memory.{followBy}
-use Rattle.meaning.specs.Procedures.{eoiVirtualization}
+use Rattle.meaning.specs.Procedures.{eoiVirtualization, retiredPage, retiredRecord}
 use borrow.Author.Needs.{needs}
 use Rattle.model.proofs.memory.follow.Statement.{statement}
 use Rattle.model.proofs.memory.follow.Tie as tie
@@ -14,7 +14,7 @@ returns c =
     simp (at-enum-told .enum-told .given .1, ← (at-clear-three .clear-three .ensures)) (at-tpr-virtualization .tpr-virtualization .ensures)
 
 returns-2 : tie.Need-returns-2
-unfolding followBy eoiVirtualization
+unfolding followBy eoiVirtualization retiredPage retiredRecord
 returns-2 c =
     let at-eoi-end = c .before .before in
     let at-retired = at-eoi-end .before .before .before .before in

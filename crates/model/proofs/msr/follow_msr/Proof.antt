@@ -1,6 +1,6 @@
 -- `model::msr::follow_msr` meets its contract: code and definition take the same cases. Assumes nothing.
 use Rattle.meaning.specs.Cr8Msr.{writeMsrBy}
-use Rattle.meaning.specs.Procedures.{eoiVirtualization}
+use Rattle.meaning.specs.Procedures.{eoiVirtualization, retiredPage, retiredRecord}
 use borrow.Author.Needs.{needs}
 use Rattle.model.proofs.msr.follow_msr.Statement.{statement}
 use Rattle.model.proofs.msr.follow_msr.Tie as tie
@@ -22,7 +22,7 @@ returns-3 c =
     simp (at-enum-told3 .enum-told3 .given .1, ← (at-set-long .before .msr-offset .ensures), ← (at-set-long .set-long .ensures)) (at-tpr-virtualization .tpr-virtualization .ensures)
 
 returns-4 : tie.Need-returns-4
-unfolding writeMsrBy eoiVirtualization
+unfolding writeMsrBy eoiVirtualization retiredPage retiredRecord
 returns-4 c =
     let at-eoi-end = c .before .before in
     let at-retired = at-eoi-end .before .before .before .before in

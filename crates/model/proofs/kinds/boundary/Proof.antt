@@ -1,0 +1,37 @@
+-- `model::kinds::boundary` meets its contract: its refusal, or what carries it out. Assumes nothing.
+use Rattle.events.specs.Events.{eventInBounds, rootOnly, allowed}
+use Rattle.meaning.specs.Refusals.{refusalOf}
+use Rattle.meaning.specs.Step.{eventOut, carriedOut, stepBy, step}
+use borrow.Author.Needs.{needs}
+use Rattle.model.proofs.kinds.boundary.Statement.{statement}
+use Rattle.model.proofs.kinds.boundary.Tie as tie
+
+returns : tie.Need-returns
+unfolding step stepBy carriedOut eventOut refusalOf eventInBounds rootOnly allowed
+returns c =
+    let at-call = c .before .before in
+    let told = at-call .before .before in
+    let at-refusal = told .before .before in
+    simp (← (at-refusal .before .boundary-in-bounds .ensures), ← (at-refusal .guest-refusal .ensures), told .enum-told .given .1) (at-call .boundary .ensures)
+
+returns-2 : tie.Need-returns-2
+unfolding step stepBy refusalOf eventInBounds rootOnly allowed
+returns-2 c =
+    let told = c .before .before in
+    let at-refusal = told .before .before in
+    simp (← (at-refusal .before .boundary-in-bounds .ensures), ← (at-refusal .guest-refusal .ensures), told .refusal .given .1) (c .refused .ensures _)
+
+pub boundary-spec : {M : Type 1} → statement M
+boundary-spec =
+    tie.close
+    (tie.spec
+    (λ c κs. tt)
+    (λ c κs. tt)
+    (λ c. search needs)
+    (λ c κs. tt)
+    (λ c. search needs)
+    (λ c κs. tt)
+    (λ c. search needs)
+    returns
+    (λ c. search needs)
+    returns-2)
