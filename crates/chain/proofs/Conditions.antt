@@ -19,9 +19,10 @@ use Rattle.meaning.specs.Condition3.{Highest, Recognition, Served, Rising, Reti
 use Rattle.meaning.proofs.Condition1.{nothing-changes}
 use Rattle.meaning.proofs.Invariant.{run-inv, start-inv}
 use Rattle.meaning.proofs.Theorems.{rvi-svi-highest, recognised-exactly, in-service-exactly, classes-rise, eoi-retires-latest, nothing-else-retires, at-most-15, none-below-16}
-use Rattle.capi.specs.RecordBytes.{recordReadable, recordOf, recordBytes, kept}
-use Rattle.capi.specs.EventBytes.{eventReadable, eventOf}
-use Rattle.capi.specs.Calls.{refused, replied, modelReply, ggStep, leaveReply, ggLeave, foundNumbers, ggHighest}
+use Rattle.replies.specs.RecordBytes.{recordReadable, recordOf, recordBytes, kept}
+use Rattle.replies.specs.EventBytes.{eventReadable, eventOf}
+use Rattle.replies.specs.Replies.{refused, replied, modelReply, ggStep, leaveReply, ggLeave}
+use Rattle.capi.specs.Calls.{foundNumbers, ggHighest}
 use Rattle.chain.specs.Chain.{Call, begin, chain, inputs, AllBytes, heldOf, Tells, vector, none, Asked, Untouched}
 use Rattle.chain.proofs.Chain.{chain-is-run}
 

@@ -12,9 +12,10 @@ use Rattle.events.specs.declared.answer.Numbers.{Numbers}
 use Rattle.page.specs.Page.{byteAt}
 use Rattle.meaning.specs.Input.{Input, given, leaves}
 use Rattle.meaning.specs.Run.{zeroPage, Held, start, stepOf, heldAfter, after}
-use Rattle.capi.specs.RecordBytes.{recordReadable, recordOf, bytesOf}
-use Rattle.capi.specs.EventBytes.{eventReadable, eventOf}
-use Rattle.capi.specs.Calls.{Reply, ggStep, ggLeave, ggHighest}
+use Rattle.replies.specs.RecordBytes.{recordReadable, recordOf, bytesOf}
+use Rattle.replies.specs.EventBytes.{eventReadable, eventOf}
+use Rattle.replies.specs.Replies.{Reply, ggStep, ggLeave}
+use Rattle.capi.specs.Calls.{ggHighest}
 
 -- gg_step on an event's bytes, or gg_leave
 pub data Call : Type 0 where

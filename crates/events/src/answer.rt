@@ -31,7 +31,8 @@ pub struct Numbers {
     pub second: u64,
 }
 
-fn told(answer: u32, first: u64, second: u64) -> Numbers
+// The three numbers, put together.
+pub fn numbered(answer: u32, first: u64, second: u64) -> Numbers
     ensures { λ r. ⌜ r ≡ numbers answer first second ⌝ }
 {
     Numbers {
@@ -46,15 +47,15 @@ pub fn numbers_of(answer: Answer) -> Numbers
     ensures { λ r. ⌜ r ≡ numbersOf answer ⌝ }
 {
     match answer {
-        Answer::Refused { number, check } => told(0, number as u64, check as u64),
-        Answer::Redirected(value) => told(1, value, 0),
-        Answer::Passthrough => told(2, 0, 0),
-        Answer::Fault => told(3, 0, 0),
+        Answer::Refused { number, check } => numbered(0, number as u64, check as u64),
+        Answer::Redirected(value) => numbered(1, value, 0),
+        Answer::Passthrough => numbered(2, 0, 0),
+        Answer::Fault => numbered(3, 0, 0),
         Answer::Exit {
             reason,
             qualification,
-        } => told(4, reason as u64, qualification),
-        Answer::Delivered(vector) => told(5, vector as u64, 0),
-        Answer::Quiet => told(6, 0, 0),
+        } => numbered(4, reason as u64, qualification),
+        Answer::Delivered(vector) => numbered(5, vector as u64, 0),
+        Answer::Quiet => numbered(6, 0, 0),
     }
 }

@@ -9,14 +9,7 @@ use events::answer::Refusal;
 use events::event::Event;
 use processor::controls::Record;
 
-mod boundary;
-mod cr8;
-mod entry;
 pub mod kinds;
-mod memory;
-mod msr;
-mod outcome;
-mod procedures;
 
 // The record before any event: root mode, all zero.
 pub use processor::controls::fresh_record;
@@ -64,7 +57,7 @@ pub fn leave(record: Record) -> Outcome
 {
     let refusal = leave_refusal_of(record);
     match refusal {
-        Refusal::None => outcome::left(record),
-        Refusal::By { number, check } => outcome::refused(record, number, check),
+        Refusal::None => handlers::left(record),
+        Refusal::By { number, check } => handlers::refused(record, number, check),
     }
 }

@@ -1,6 +1,6 @@
 -- `capi::gg_leave` meets its contract: the numbers are handed over. Assumes nothing.
 use borrow.Author.Needs.{needs}
-use Rattle.capi.proofs.Reply.{handed}
+use Rattle.capi.proofs.Hand.{handed}
 use Rattle.capi.proofs.gg_leave.Statement.{statement}
 use Rattle.capi.proofs.gg_leave.Tie as tie
 

@@ -10,7 +10,7 @@ use Rattle.capi.proofs.highest_numbers.Tie as tie
 
 returns : tie.Need-returns
 unfolding ggHighest
-returns c = simp (ne-eqb _ _ (c .before .if1 .taken)) (c .refused .ensures)
+returns c = simp (ne-eqb _ _ (c .before .if1 .taken)) (c .numbered .ensures)
 
 returns-2 : tie.Need-returns-2
 unfolding ggHighest
@@ -29,7 +29,7 @@ returns-4 : tie.Need-returns-4
 unfolding ggHighest
 returns-4 c =
     let other = c .before in
-    simp (eq-eqb _ _ (other .before .before .if1 .left), ne-eqb _ _ (other .before .if2 .left), ne-eqb _ _ (other .if3 .left)) (c .refused2 .ensures)
+    simp (eq-eqb _ _ (other .before .before .if1 .left), ne-eqb _ _ (other .before .if2 .left), ne-eqb _ _ (other .if3 .left)) (c .numbered2 .ensures)
 
 pub highest-numbers-spec : {M : Type 1} → statement M
 highest-numbers-spec =

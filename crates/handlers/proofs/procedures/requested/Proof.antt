@@ -1,0 +1,11 @@
+-- `handlers::procedures::requested` meets its contract: code and definition take the same cases. Assumes nothing.
+use Rattle.meaning.specs.Procedures.{requestedRecord}
+use Rattle.handlers.proofs.procedures.requested.Statement.{statement}
+use Rattle.handlers.proofs.procedures.requested.Tie as tie
+
+returns : tie.Need-returns
+unfolding requestedRecord
+returns c = simp (← (c .larger-of .ensures))
+
+pub requested-spec : {M : Type 1} → statement M
+requested-spec = tie.close (tie.spec (λ c κs. tt) returns)

@@ -1,0 +1,3 @@
+pub mod Reply
+pub mod Fresh
+pub mod RoundTrip

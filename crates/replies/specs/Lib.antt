@@ -1,0 +1,3 @@
+pub mod RecordBytes
+pub mod EventBytes
+pub mod Replies
