@@ -22,10 +22,10 @@ use Rattle.meaning.specs.Widths.{ControlsFit, RecordFits, InputFits}
 use Rattle.meaning.proofs.Condition1.{nothing-changes}
 use Rattle.meaning.proofs.Laws.{laws, fits}
 use Rattle.meaning.proofs.Invariant.{start-inv}
-use Rattle.replies.specs.RecordBytes.{controlsOf, controlsBytes, reservedZero, recordReadable, recordOf, truthByte, recordBytes, bytesOf, kept}
+use Rattle.layout.specs.RecordBytes.{controlsOf, controlsBytes, reservedZero, recordReadable, recordOf, truthByte, recordBytes, bytesOf, kept}
 use Rattle.replies.specs.EventBytes.{eventReadable, memoryReadOf, memoryWriteOf, toCr8Of, wrmsrOf, boundaryOf, requestOf, eventOf}
 use Rattle.replies.specs.Replies.{Reply, refused, replied, modelReply, ggStep, leaveReply, ggLeave}
-use Rattle.replies.proofs.RoundTrip.{stored-length, read-back, stored-readable, stored-over}
+use Rattle.layout.proofs.RoundTrip.{stored-length, read-back, stored-readable, stored-over}
 use Rattle.chain.specs.Chain.{Call, steps, leave, Lent, begin, replyTo, chain, brought, canBeRead, inputOf, inputs, told, CallBytes, AllBytes, heldOf, IsRun}
 
 -- ---- an entry's controls, read from bytes, fit

@@ -19,7 +19,7 @@ use Rattle.meaning.specs.Condition3.{Highest, Recognition, Served, Rising, Reti
 use Rattle.meaning.proofs.Condition1.{nothing-changes}
 use Rattle.meaning.proofs.Invariant.{run-inv, start-inv}
 use Rattle.meaning.proofs.Theorems.{rvi-svi-highest, recognised-exactly, in-service-exactly, classes-rise, eoi-retires-latest, nothing-else-retires, at-most-15, none-below-16}
-use Rattle.replies.specs.RecordBytes.{recordReadable, recordOf, recordBytes, kept}
+use Rattle.layout.specs.RecordBytes.{recordReadable, recordOf, recordBytes, kept}
 use Rattle.replies.specs.EventBytes.{eventReadable, eventOf}
 use Rattle.replies.specs.Replies.{refused, replied, modelReply, ggStep, leaveReply, ggLeave}
 use Rattle.capi.specs.Calls.{foundNumbers, ggHighest}

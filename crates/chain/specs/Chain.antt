@@ -12,7 +12,7 @@ use Rattle.events.specs.declared.answer.Numbers.{Numbers}
 use Rattle.page.specs.Page.{byteAt}
 use Rattle.meaning.specs.Input.{Input, given, leaves}
 use Rattle.meaning.specs.Run.{zeroPage, Held, start, stepOf, heldAfter, after}
-use Rattle.replies.specs.RecordBytes.{recordReadable, recordOf, bytesOf}
+use Rattle.layout.specs.RecordBytes.{recordReadable, recordOf, bytesOf}
 use Rattle.replies.specs.EventBytes.{eventReadable, eventOf}
 use Rattle.replies.specs.Replies.{Reply, ggStep, ggLeave}
 use Rattle.capi.specs.Calls.{ggHighest}

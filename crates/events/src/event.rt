@@ -1,12 +1,12 @@
 // The events, at widths that can hold what a recorder writes down, and their bounds.
 ghost use mathlib.Core.Path.{_≡_};
 ghost use Rattle.events.specs.Events.{eventInBounds, inBounds, rootOnly, allowed};
-use crate::bounds::boundary_in_bounds;
-use crate::bounds::from_cr8_in_bounds;
+use crate::bounds::ACTIVITIES;
+use crate::bounds::CR8_VALUES;
+use crate::bounds::REGISTERS;
+use crate::bounds::VECTORS;
 use crate::bounds::memory_read_in_bounds;
 use crate::bounds::memory_write_in_bounds;
-use crate::bounds::request_in_bounds;
-use crate::bounds::to_cr8_in_bounds;
 use processor::controls::Controls;
 use processor::controls::Record;
 
@@ -50,7 +50,7 @@ fn event_in_bounds(event: Event) -> bool
 {
     match event {
         Event::Entry(controls) => controls.flags_in_bounds(),
-        Event::Request(vector) => request_in_bounds(vector),
+        Event::Request(vector) => vector < VECTORS,
         Event::MemoryRead {
             offset,
             size,
@@ -64,8 +64,8 @@ fn event_in_bounds(event: Event) -> bool
             already: _,
             value,
         } => memory_write_in_bounds(offset, size, fetch, value),
-        Event::ToCr8 { value, register } => to_cr8_in_bounds(value, register),
-        Event::FromCr8(register) => from_cr8_in_bounds(register),
+        Event::ToCr8 { value, register } => (value < CR8_VALUES) & (register < REGISTERS),
+        Event::FromCr8(register) => register < REGISTERS,
         Event::Rdmsr(_) => true,
         Event::Wrmsr { index: _, value: _ } => true,
         Event::Boundary {
@@ -73,7 +73,7 @@ fn event_in_bounds(event: Event) -> bool
             sti: _,
             mov_ss: _,
             activity,
-        } => boundary_in_bounds(activity),
+        } => activity < ACTIVITIES,
     }
 }
 

@@ -1,4 +1,4 @@
-// What carries an event out that nothing refuses, and what any event may leave.
+// What carries an event out that nothing refuses.
 pub mod boundary;
 pub mod cr8;
 pub mod entry;
@@ -6,7 +6,3 @@ pub mod memory;
 pub mod msr;
 mod outcome;
 mod procedures;
-
-// A refusal, and a guest that leaves.
-pub use outcome::left;
-pub use outcome::refused;

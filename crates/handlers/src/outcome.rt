@@ -1,20 +1,10 @@
 // An answer with its record, on whatever page.
 ghost use Prim.Native.Nat.{ℕ};
 ghost use mathlib.Core.List.{List};
-ghost use Rattle.meaning.specs.Leave.{left as leftOf};
-ghost use Rattle.meaning.specs.After.{Leaves, refused as refusedOf, redirected as redirectedOf, passthrough as passthroughOf, fault as faultOf, exit as exitOf, delivered as deliveredOf, quiet as quietOf};
+ghost use Rattle.meaning.specs.After.{Leaves, redirected as redirectedOf, passthrough as passthroughOf, fault as faultOf, exit as exitOf, delivered as deliveredOf, quiet as quietOf};
 use events::answer::Answer;
 use events::answer::Outcome;
 use processor::controls::Record;
-
-pub fn refused(record: Record, number: u8, check: u8) -> Outcome
-    ensures { λ r. ⌜ ((p : List ℕ) → Leaves (refusedOf number check p «record») r p) ⌝ }
-{
-    Outcome {
-        answer: Answer::Refused { number, check },
-        record,
-    }
-}
 
 pub fn redirected(record: Record, value: u64) -> Outcome
     ensures { λ r. ⌜ ((p : List ℕ) → Leaves (redirectedOf value p «record») r p) ⌝ }
@@ -53,13 +43,6 @@ pub fn exit(record: Record, reason: u32, qualification: u64) -> Outcome
         },
         record: record.outside(),
     }
-}
-
-// The guest left for a reason outside the model.
-pub fn left(record: Record) -> Outcome
-    ensures { λ r. ⌜ ((p : List ℕ) → Leaves (leftOf p «record») r p) ⌝ }
-{
-    quiet(record.outside())
 }
 
 pub fn delivered(record: Record, vector: u8) -> Outcome

@@ -3,20 +3,20 @@ ghost use Rattle.events.specs.declared.event.Event.the-variants.{Entry, Request
 ghost use Rattle.meaning.specs.After.{Leaves};
 ghost use Rattle.meaning.specs.Input.{given};
 ghost use Rattle.meaning.specs.Step.{step as stepOf};
+use crate::outcome::refused;
 use events::answer::Outcome;
 use events::answer::Refusal;
-use events::bounds::boundary_in_bounds;
-use events::bounds::from_cr8_in_bounds;
+use events::bounds::ACTIVITIES;
+use events::bounds::CR8_VALUES;
+use events::bounds::REGISTERS;
+use events::bounds::VECTORS;
 use events::bounds::memory_read_in_bounds;
 use events::bounds::memory_write_in_bounds;
-use events::bounds::request_in_bounds;
-use events::bounds::to_cr8_in_bounds;
 use handlers::boundary;
 use handlers::cr8;
 use handlers::entry;
 use handlers::memory;
 use handlers::msr;
-use handlers::refused;
 use processor::controls::Controls;
 use processor::controls::Record;
 use refusals::list::guest_refusal;
@@ -41,7 +41,7 @@ pub fn entry(page: &mut [u8], record: Record, controls: Controls) -> Outcome
 pub fn request(page: &mut [u8], record: Record, vector: u16) -> Outcome
     ensures { λ r. ⌜ Leaves (stepOf (now (page .entry)) «record» (given (Request vector))) r (now (page .exit)) ⌝ }
 {
-    let refusal = root_refusal(page, record, request_in_bounds(vector), 0);
+    let refusal = root_refusal(page, record, vector < VECTORS, 0);
     match refusal {
         Refusal::None => entry::request(page, record, (vector % 256) as u8),
         Refusal::By { number, check } => refused(record, number, check),
@@ -90,7 +90,7 @@ pub fn memory_write(
 pub fn to_cr8(page: &mut [u8], record: Record, value: u8, register: u8) -> Outcome
     ensures { λ r. ⌜ Leaves (stepOf (now (page .entry)) «record» (given (ToCr8 value register))) r (now (page .exit)) ⌝ }
 {
-    let refusal = guest_refusal(page, record, to_cr8_in_bounds(value, register));
+    let refusal = guest_refusal(page, record, (value < CR8_VALUES) & (register < REGISTERS));
     match refusal {
         Refusal::None => cr8::mov_to_cr8(page, record, value, register),
         Refusal::By { number, check } => refused(record, number, check),
@@ -100,7 +100,7 @@ pub fn to_cr8(page: &mut [u8], record: Record, value: u8, register: u8) -> Outco
 pub fn from_cr8(page: &[u8], record: Record, register: u8) -> Outcome
     ensures { λ r. ⌜ Leaves (stepOf (now (page .entry)) «record» (given (FromCr8 register))) r (now (page .entry)) ⌝ }
 {
-    let refusal = guest_refusal(page, record, from_cr8_in_bounds(register));
+    let refusal = guest_refusal(page, record, register < REGISTERS);
     match refusal {
         Refusal::None => cr8::mov_from_cr8(page, record, register),
         Refusal::By { number, check } => refused(record, number, check),
@@ -137,7 +137,7 @@ pub fn boundary(
 ) -> Outcome
     ensures { λ r. ⌜ Leaves (stepOf (now (page .entry)) «record» (given (Boundary interrupts sti «mov_ss» activity))) r (now (page .exit)) ⌝ }
 {
-    let refusal = guest_refusal(page, record, boundary_in_bounds(activity));
+    let refusal = guest_refusal(page, record, activity < ACTIVITIES);
     match refusal {
         Refusal::None => boundary::boundary(page, record, interrupts, sti, mov_ss, activity),
         Refusal::By { number, check } => refused(record, number, check),

@@ -10,6 +10,7 @@ use events::event::Event;
 use processor::controls::Record;
 
 pub mod kinds;
+mod outcome;
 
 // The record before any event: root mode, all zero.
 pub use processor::controls::fresh_record;
@@ -57,7 +58,7 @@ pub fn leave(record: Record) -> Outcome
 {
     let refusal = leave_refusal_of(record);
     match refusal {
-        Refusal::None => handlers::left(record),
-        Refusal::By { number, check } => handlers::refused(record, number, check),
+        Refusal::None => outcome::left(record),
+        Refusal::By { number, check } => outcome::refused(record, number, check),
     }
 }

@@ -1,3 +1,1 @@
 pub mod Reply
-pub mod Fresh
-pub mod RoundTrip

@@ -13,7 +13,7 @@ use Rattle.meaning.specs.Input.{Input, given, leaves}
 use Rattle.meaning.specs.After.{After, Leaves}
 use Rattle.meaning.specs.Step.{step}
 use Rattle.meaning.proofs.Laws.{controls-after}
-use Rattle.replies.specs.RecordBytes.{controlsOf, recordOf}
+use Rattle.layout.specs.RecordBytes.{controlsOf, recordOf}
 use Rattle.replies.specs.Replies.{Told, Replies, refused, replied}
 
 -- a refusal's numbers, on bytes that stay

@@ -7,7 +7,7 @@ use Rattle.processor.specs.Logic.{if_then_else_, bit}
 use Rattle.events.specs.declared.event.Event.{Event}
 use Rattle.events.specs.declared.event.Event.the-variants.{Entry, Request, MemoryRead, MemoryWrite, ToCr8, FromCr8, Rdmsr, Wrmsr, Boundary}
 use Rattle.page.specs.Page.{byteAt, wordWithin, longWithin}
-use Rattle.replies.specs.RecordBytes.{controlsOf, reservedZero}
+use Rattle.layout.specs.RecordBytes.{controlsOf, reservedZero}
 
 -- kind u8 at 0, size u8 at 1, flags u8 at 2, detail u8 at 3, number u32 at 4, value u64 at 8
 abbrev pub kindOf : List ℕ → ℕ

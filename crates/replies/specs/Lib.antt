@@ -1,3 +1,2 @@
-pub mod RecordBytes
 pub mod EventBytes
 pub mod Replies

@@ -13,7 +13,7 @@ use Rattle.events.specs.declared.event.Event.{Event}
 use Rattle.meaning.specs.Input.{given, leaves}
 use Rattle.meaning.specs.After.{After}
 use Rattle.meaning.specs.Step.{step}
-use Rattle.replies.specs.RecordBytes.{recordReadable, recordOf, kept}
+use Rattle.layout.specs.RecordBytes.{recordReadable, recordOf, kept}
 use Rattle.replies.specs.EventBytes.{eventReadable, eventOf}
 
 pub record Reply : Type 0 where

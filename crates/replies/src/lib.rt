@@ -6,15 +6,13 @@ ghost use lib.ListN.{length};
 ghost use Rattle.replies.specs.Replies.{Replies, ggStep, leaveReply, ggLeave};
 use events::answer::Numbers;
 use kinds::kind_reply;
-use records::record_of;
-use records::record_readable;
+use layout::record_of;
+use layout::record_readable;
 use told::refused;
 use told::told_status;
 
-mod controls;
 mod event_bytes;
 mod kinds;
-mod records;
 mod told;
 
 // Refusals 1 and 2 of what cannot be read; the event by its kind.
@@ -30,7 +28,8 @@ pub fn step_bytes(page: &mut [u8], record: &mut [u8], event: &[u8]) -> Numbers
     if event.len() != 48 {
         return refused(2);
     }
-    if !record_readable(record) {
+    let readable = record_readable(record);
+    if !readable {
         return refused(2);
     }
     kind_reply(page, record, event)

@@ -2,14 +2,14 @@
 ghost use mathlib.Core.Path.{_≡_};
 ghost use lib.ListN.{length};
 ghost use Rattle.events.specs.Answers.{numbers};
-ghost use Rattle.replies.specs.RecordBytes.{controlsOf};
+ghost use Rattle.layout.specs.RecordBytes.{controlsOf};
 ghost use Rattle.replies.specs.Replies.{Told};
-use crate::records::keep;
-use crate::records::keep_status;
 use events::answer::Numbers;
 use events::answer::Outcome;
 use events::answer::numbered;
 use events::answer::numbers_of;
+use layout::keep;
+use layout::keep_status;
 
 pub fn refused(number: u64) -> Numbers
     ensures { λ r. ⌜ r ≡ numbers 0 number 0 ⌝ }

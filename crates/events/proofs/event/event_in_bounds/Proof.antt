@@ -10,7 +10,7 @@ returns c = simp (c .before .before .event .given .1, ← (c .flags-in-bounds .e
 
 returns-2 : tie.Need-returns-2
 unfolding eventInBounds
-returns-2 c = simp (c .before .before .event2 .given .1, ← (c .request-in-bounds .ensures))
+returns-2 c = simp (c .before .event2 .given .1)
 
 returns-3 : tie.Need-returns-3
 unfolding eventInBounds
@@ -22,11 +22,11 @@ returns-4 c = simp (c .before .before .event4 .given .1, ← (c .memory-write-in
 
 returns-5 : tie.Need-returns-5
 unfolding eventInBounds
-returns-5 c = simp (c .before .before .event5 .given .1, ← (c .to-cr8-in-bounds .ensures))
+returns-5 c = simp (c .before .event5 .given .1)
 
 returns-6 : tie.Need-returns-6
 unfolding eventInBounds
-returns-6 c = simp (c .before .before .event6 .given .1, ← (c .from-cr8-in-bounds .ensures))
+returns-6 c = simp (c .before .event6 .given .1)
 
 returns-7 : tie.Need-returns-7
 unfolding eventInBounds
@@ -38,7 +38,7 @@ returns-8 c = simp (c .enum-told2 .given .1)
 
 returns-9 : tie.Need-returns-9
 unfolding eventInBounds
-returns-9 c = simp (c .before .before .event7 .given .1, ← (c .boundary-in-bounds .ensures))
+returns-9 c = simp (c .before .event7 .given .1)
 
 pub event-in-bounds-spec : {M : Type 1} → statement M
 event-in-bounds-spec =
@@ -47,19 +47,15 @@ event-in-bounds-spec =
     (λ c. search needs)
     (λ c κs. tt)
     (λ c. search needs)
-    (λ c κs. tt)
     (λ c. search needs)
     (λ c κs. tt)
     (λ c. search needs)
     (λ c κs. tt)
     (λ c. search needs)
-    (λ c κs. tt)
-    (λ c. search needs)
-    (λ c κs. tt)
     (λ c. search needs)
     (λ c. search needs)
     (λ c. search needs)
-    (λ c κs. tt)
+    (λ c. search needs)
     returns
     returns-2
     returns-3

@@ -17,8 +17,8 @@ returns c =
     let at-call = c .before .before in
     let told = at-call .before .before in
     let at-refusal = told .before .before in
-    let args = at-refusal .before .before .before .before .args in
-    let none : refusalOf (args .page .now) (args .«record») (given (Request (args .vector))) ≡ None = simp (← (at-refusal .before .request-in-bounds .ensures), ← (at-refusal .root-refusal .ensures)) (told .enum-told .given .1) in
+    let args = at-refusal .before .before .before .args in
+    let none : refusalOf (args .page .now) (args .«record») (given (Request (args .vector))) ≡ None = simp (← (at-refusal .root-refusal .ensures)) (told .enum-told .given .1) in
     simp (none) (rw (byte-vector (args .page .now) (args .«record») (args .vector) none) at (at-call .request .ensures))
 
 returns-2 : tie.Need-returns-2
@@ -26,13 +26,12 @@ unfolding step stepBy refusalOf eventInBounds rootOnly allowed
 returns-2 c =
     let told = c .before .before in
     let at-refusal = told .before .before in
-    simp (← (at-refusal .before .request-in-bounds .ensures), ← (at-refusal .root-refusal .ensures), told .refusal .given .1) (c .refused .ensures _)
+    simp (← (at-refusal .root-refusal .ensures), told .refusal .given .1) (c .refused .ensures _)
 
 pub request-spec : {M : Type 1} → statement M
 request-spec =
     tie.close
     (tie.spec
-    (λ c κs. tt)
     (λ c κs. tt)
     (λ c. search needs)
     (λ c. search needs)

@@ -1,0 +1,9 @@
+-- `layout::controls::reserved_zero` meets its contract: code and definition are one expression. Assumes nothing.
+use Rattle.layout.proofs.controls.reserved_zero.Statement.{statement}
+use Rattle.layout.proofs.controls.reserved_zero.Tie as tie
+
+returns : tie.Need-returns
+returns c = simp (← (c .word-within .ensures))
+
+pub reserved-zero-spec : {M : Type 1} → statement M
+reserved-zero-spec = tie.close (tie.spec (λ c κs. tt) returns)

@@ -1,0 +1,53 @@
+// The controls, at the same places in the record's bytes and in an entry's.
+ghost use mathlib.Core.Path.{_≡_};
+ghost use Rattle.layout.specs.RecordBytes.{controlsOf, reservedZero, controlsBytes};
+use page::bytes::long_within;
+use page::bytes::word_within;
+use processor::controls::Controls;
+use stores::bytes::set_long;
+use stores::bytes::set_word;
+
+const THRESHOLD: u16 = 4;
+
+const FLAGS: u16 = 8;
+
+const RESERVED: u16 = 12;
+
+const EOI_EXIT_0: u16 = 16;
+
+const EOI_EXIT_1: u16 = 24;
+
+const EOI_EXIT_2: u16 = 32;
+
+const EOI_EXIT_3: u16 = 40;
+
+pub fn controls_of(bytes: &[u8]) -> Controls
+    ensures { λ r. ⌜ r ≡ controlsOf (now (bytes .entry)) ⌝ }
+{
+    Controls {
+        flags: word_within(bytes, FLAGS),
+        threshold: word_within(bytes, THRESHOLD),
+        eoi_exit_0: long_within(bytes, EOI_EXIT_0),
+        eoi_exit_1: long_within(bytes, EOI_EXIT_1),
+        eoi_exit_2: long_within(bytes, EOI_EXIT_2),
+        eoi_exit_3: long_within(bytes, EOI_EXIT_3),
+    }
+}
+
+// The bytes that are kept for what comes are 0.
+pub fn reserved_zero(bytes: &[u8]) -> bool
+    ensures { λ r. ⌜ r ≡ reservedZero (now (bytes .entry)) ⌝ }
+{
+    word_within(bytes, RESERVED) == 0
+}
+
+pub fn controls_bytes(bytes: &mut [u8], controls: Controls)
+    ensures { λ _. ⌜ now (bytes .exit) ≡ controlsBytes (now (bytes .entry)) controls ⌝ }
+{
+    set_word(bytes, THRESHOLD, controls.threshold);
+    set_word(bytes, FLAGS, controls.flags);
+    set_long(bytes, EOI_EXIT_0, controls.eoi_exit_0);
+    set_long(bytes, EOI_EXIT_1, controls.eoi_exit_1);
+    set_long(bytes, EOI_EXIT_2, controls.eoi_exit_2);
+    set_long(bytes, EOI_EXIT_3, controls.eoi_exit_3);
+}

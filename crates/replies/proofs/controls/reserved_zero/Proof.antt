@@ -1,9 +1,0 @@
--- `replies::controls::reserved_zero` meets its contract: code and definition are one expression. Assumes nothing.
-use Rattle.replies.proofs.controls.reserved_zero.Statement.{statement}
-use Rattle.replies.proofs.controls.reserved_zero.Tie as tie
-
-returns : tie.Need-returns
-returns c = simp (← (c .word-within .ensures))
-
-pub reserved-zero-spec : {M : Type 1} → statement M
-reserved-zero-spec = tie.close (tie.spec (λ c κs. tt) returns)
