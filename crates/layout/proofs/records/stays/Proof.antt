@@ -1,0 +1,10 @@
+-- `layout::records::stays` meets its contract: code and definition are one expression. Assumes nothing.
+use mathlib.Core.Path.{refl}
+use Rattle.layout.proofs.records.stays.Statement.{statement}
+use Rattle.layout.proofs.records.stays.Tie as tie
+
+returns : tie.Need-returns
+returns c = refl
+
+pub stays-spec : {M : Type 1} → statement M
+stays-spec = tie.close (tie.spec returns)
