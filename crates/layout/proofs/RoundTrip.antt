@@ -1,4 +1,5 @@
--- A record stored in 48 bytes is read back and can be read, and another stored over it leaves nothing of it. Assumes nothing.
+-- A record stored in 48 bytes is read back and can be read, and another stored over it leaves nothing of it; under the controls that the
+-- bytes hold, its other fields alone change any. Assumes nothing.
 use Prim.Native.Nat.{ℕ, zero, suc, _+_, _*_, _/_, _%_, _^_, _<_}
 use native.Mathlib.Nat.{div-div-eq-div-mul}
 use native.Mathlib.Omega.{arith}
@@ -157,6 +158,7 @@ module _ (b : List ℕ) (r : Record) (e : length b ≡ 48) where
   stored-status h q =
       subst (λ l. r .controls ≡ controlsOf l → recordBytes l r ≡ statusBytes l r) (sym each) (status-elements (λ i. getD b i 0) r h) q
 
+  -- so that an answer keeps the same bytes either way
   pub kept-status : ((i : ℕ) → getD b i 0 < 256) → r .controls ≡ controlsOf b → (answer : ℕ) → keptStatus b answer r ≡ kept b answer r
   unfolding keptStatus kept
   kept-status h q answer = by (ltb answer 4)
