@@ -56,5 +56,6 @@ firstRefusal page fields mode check =
     else if not (eqb check 0) then By 4 check
     else None
 
+-- which refusal an input gets, by the four tests
 unfoldable pub refusalOf : List ℕ → Record → Input → Refusal
 refusalOf p r i = firstRefusal (pageFits p i) (fieldsFit r i) (modeFits r i) (checkOf i)

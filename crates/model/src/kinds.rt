@@ -43,7 +43,7 @@ pub fn request(page: &mut [u8], record: Record, vector: u16) -> Outcome
 {
     let refusal = root_refusal(page, record, vector < VECTORS, 0);
     match refusal {
-        Refusal::None => entry::request(page, record, (vector % 256) as u8),
+        Refusal::None => entry::request(page, record, (vector % VECTORS) as u8),
         Refusal::By { number, check } => refused(record, number, check),
     }
 }
