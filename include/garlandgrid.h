@@ -29,8 +29,8 @@ GG_STATIC_ASSERT(__BYTE_ORDER__ == __ORDER_LITTLE_ENDIAN__, "the record and even
 #endif
 
 /* The major number grows where a promise changes, the minor one where something is added. */
-#define GG_VERSION_MAJOR 1
-#define GG_VERSION_MINOR 1
+#define GG_VERSION_MAJOR 2
+#define GG_VERSION_MINOR 0
 
 /* Lengths that the functions accept; any other length is refused. */
 enum {
@@ -121,19 +121,20 @@ enum {
     GG_REFUSED_ENTRY_CHECK = 4
 };
 
-/* Entry checks, in the order in which they are tested. */
+/* Entry checks, in the order in which they are tested; the number 5 is kept. Check 6 alone reads the page. */
 enum {
     GG_CHECK_TPR_SHADOW_OFF = 1,         /* x2APIC mode, registers or VID without the shadow */
     GG_CHECK_BOTH_APIC_MODES = 2,        /* APIC accesses together with x2APIC mode */
     GG_CHECK_EXTERNAL_INTERRUPTS = 3,    /* VID without external-interrupt exiting */
-    GG_CHECK_TPR_THRESHOLD = 4           /* shadow without VID and a threshold above 15 */
+    GG_CHECK_TPR_THRESHOLD = 4,          /* shadow without VID and a threshold above 15 */
+    GG_CHECK_TPR_BELOW_THRESHOLD = 6     /* shadow without VID and APIC accesses, threshold above VTPR's class */
 };
 
 /* Basic exit reasons: before the instruction, nothing of it is done; after it, its write stays. */
 enum {
     GG_EXIT_INTERRUPT_WINDOW = 7,     /* at the boundary */
     GG_EXIT_CONTROL_REGISTER = 28,    /* before the instruction */
-    GG_EXIT_TPR_BELOW_THRESHOLD = 43, /* after it; at an entry, before any instruction */
+    GG_EXIT_TPR_BELOW_THRESHOLD = 43, /* after it; at an entry with APIC accesses, before any instruction */
     GG_EXIT_APIC_ACCESS = 44,         /* before it */
     GG_EXIT_VIRTUALIZED_EOI = 45,     /* after it */
     GG_EXIT_APIC_WRITE = 56           /* after it */

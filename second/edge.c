@@ -1,6 +1,7 @@
 /* Turns bytes into the second program's own fields and back. */
 #include "edge.h"
 
+#include "faults.h"
 #include "registers.h"
 
 #include <string.h>
@@ -64,11 +65,11 @@ static inline uint32_t hand_numbers(struct outcome outcome, uint64_t *first, uin
     return outcome.answer;
 }
 
-/* Hands an outcome over; only what isn't refused is written back. */
+/* Hands an outcome over; only what isn't refused is written back, but for one fault. */
 static inline uint32_t hand_over(struct outcome outcome, const struct cpu *cpu, uint8_t *record,
                                  uint64_t *first, uint64_t *second)
 {
-    if (outcome.answer != 0)
+    if (outcome.answer != 0 || (FAULT(CHECK_6_TAKES) && outcome.second == 6))
         put_cpu(record, cpu);
     return hand_numbers(outcome, first, second);
 }

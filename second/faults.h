@@ -18,6 +18,12 @@
     X(PPR_TIE, "ppr-tie", "VTPR must have the larger class to decide VPPR")                      \
     X(PPR_NARROW, "ppr-one-byte", "PPR virtualization writes one byte of VPPR")                  \
     X(CHECK_ORDER, "entry-check-order", "check 2 is made before check 1")                        \
+    X(CHECK_6_DROPPED, "entry-check-6-dropped", "check 6 passes whatever the threshold")         \
+    X(CHECK_6_ACCESSES, "entry-check-6-with-accesses", "check 6 is made with control 1 on too")  \
+    X(CHECK_6_FIRST, "entry-check-6-first", "check 6 is made before check 4")                    \
+    X(CHECK_6_VPPR, "entry-check-6-by-vppr", "check 6 looks at VPPR's class")                    \
+    X(CHECK_6_EXITS, "entry-exit-43-for-check-6", "exit 43 with control 1 off, and no check 6")  \
+    X(CHECK_6_TAKES, "entry-check-6-takes-controls", "an entry refused by check 6 is stored")    \
     X(ENTRY_NO_43, "entry-no-exit-43", "an entry never exits below the threshold")               \
     X(ENTRY_43_DROPS, "entry-exit-43-drops-controls", "exit 43 on entry keeps the old controls") \
     X(ENTRY_NO_PPR, "entry-no-ppr", "an entry with VID skips PPR virtualization")                \

@@ -1,8 +1,8 @@
 /* Holds the header to C11 and C++11, compiled once as each: every function is used, nothing is linked. */
 #include "garlandgrid.h"
 
-#if GG_VERSION_MAJOR != 1 || GG_VERSION_MINOR != 1
-#error "the checks of this folder are those of version 1.1"
+#if GG_VERSION_MAJOR != 2 || GG_VERSION_MINOR != 0
+#error "the checks of this folder are those of version 2.0"
 #endif
 
 struct gg_answer header(uint8_t *page, struct gg_record *record, uint32_t choice);

@@ -1,4 +1,4 @@
-/* Document 01's rules: the five procedures and the events; the leave and the question are the header's. */
+/* Document 01's rules, with E2 of document 02; the leave and the question are the header's. */
 #include "oracle.h"
 
 #include "bounds.h"
@@ -130,8 +130,24 @@ static struct outcome self_ipi(struct apic *a, unsigned vector)
     return quiet();
 }
 
-/* The number of the first entry check that fails, 0 where none does. */
-static unsigned failing_check(const struct happening *e)
+/* E2: shadow on, VID off, and a threshold that VTPR's class does not reach. */
+static bool threshold_too_high(const struct happening *e, unsigned vtpr)
+{
+    uint32_t c = (uint32_t)e->value;
+    return in(c, SHADOW) && !in(c, DELIVERY) && class_of(vtpr) < e->number;
+}
+
+static bool check_6_fails(const struct happening *e, const uint8_t *page)
+{
+    if (FAULT(CHECK_6_DROPPED) || FAULT(CHECK_6_EXITS))
+        return false;
+    unsigned vtpr = page[FAULT(CHECK_6_VPPR) ? VPPR : VTPR];
+    bool unvirtualised = !in((uint32_t)e->value, ACCESSES) || FAULT(CHECK_6_ACCESSES);
+    return unvirtualised && threshold_too_high(e, vtpr);
+}
+
+/* The number of the first entry check that fails, 0 where none does; 5 is no check yet. */
+static unsigned failing_check(const struct happening *e, const uint8_t *page)
 {
     uint32_t c = (uint32_t)e->value;
     bool shadow = in(c, SHADOW), vid = in(c, DELIVERY);
@@ -144,20 +160,30 @@ static unsigned failing_check(const struct happening *e)
         return 2;
     if (vid && !in(c, EXTERNAL))
         return 3;
-    return shadow && !vid && e->number > 15 ? 4 : 0;
+    if (FAULT(CHECK_6_FIRST) && check_6_fails(e, page))
+        return 6;
+    if (shadow && !vid && e->number > 15)
+        return 4;
+    return check_6_fails(e, page) ? 6 : 0;
+}
+
+static void take_controls(struct cpu *cpu, const struct happening *e)
+{
+    cpu->controls = (uint32_t)e->value;
+    cpu->threshold = e->number;
+    memcpy(cpu->eoi_exit, e->eoi_exit, sizeof e->eoi_exit);
 }
 
 static struct outcome entry(struct apic *a, const struct happening *e)
 {
-    unsigned check = failing_check(e);
+    struct cpu before = *a->cpu;
+    unsigned check = failing_check(e, a->page);
+    if (!check || FAULT(CHECK_6_TAKES))
+        take_controls(a->cpu, e);
     if (check)
         return answer(REFUSED, 4, check);
-    struct cpu before = *a->cpu;
-    a->cpu->controls = (uint32_t)e->value;
-    a->cpu->threshold = e->number;
-    memcpy(a->cpu->eoi_exit, e->eoi_exit, sizeof e->eoi_exit);
-    bool below = class_of(a->page[VTPR]) < e->number;
-    if (on(a, SHADOW) && !on(a, DELIVERY) && below && !FAULT(ENTRY_NO_43)) {
+    bool exits = (on(a, ACCESSES) || FAULT(CHECK_6_EXITS)) && threshold_too_high(e, a->page[VTPR]);
+    if (exits && !FAULT(ENTRY_NO_43)) {
         if (FAULT(ENTRY_43_DROPS))
             *a->cpu = before;
         return leave(a, 43, 0);

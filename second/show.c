@@ -48,6 +48,24 @@ const char *show_reason(unsigned reason)
     }
 }
 
+const char *show_check(unsigned check)
+{
+    switch (check) {
+    case GG_CHECK_TPR_SHADOW_OFF:
+        return "TPR shadow off";
+    case GG_CHECK_BOTH_APIC_MODES:
+        return "both APIC modes";
+    case GG_CHECK_EXTERNAL_INTERRUPTS:
+        return "external interrupts";
+    case GG_CHECK_TPR_THRESHOLD:
+        return "TPR threshold";
+    case GG_CHECK_TPR_BELOW_THRESHOLD:
+        return "TPR below threshold";
+    default:
+        return "unknown check";
+    }
+}
+
 static void show_bytes(const char *name, const uint8_t *bytes, size_t count)
 {
     printf("  %s", name);

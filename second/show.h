@@ -8,6 +8,7 @@ const char *show_kind(unsigned kind);
 const char *show_answer(unsigned number);
 const char *show_highest_answer(unsigned number);
 const char *show_reason(unsigned reason);
+const char *show_check(unsigned check);
 
 void show_trial(const struct trial *t);
 

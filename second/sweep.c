@@ -118,9 +118,12 @@ static void sweep_msr(struct random *r, uint64_t index, struct trial *t)
 
 static const uint32_t far_thresholds[] = {0x1F, 0x20, 0x25, 0x100, 0x80000005, 0xFFFFFFF0, 0xFFFFFFFF};
 
-enum { THRESHOLDS = 18 + COUNT(far_thresholds), THRESHOLD_CASES = THRESHOLDS * 16 * 2 * 4 * 8 };
+/* How the guest reaches its registers: by memory, by MSRs, by neither. */
+static const uint32_t reaches[] = {GG_VIRTUALIZE_APIC_ACCESSES, GG_VIRTUALIZE_X2APIC_MODE, 0};
 
-/* Thresholds against every class, at entry and by each of the three ways to write VTPR. */
+enum { THRESHOLDS = 18 + COUNT(far_thresholds), THRESHOLD_CASES = THRESHOLDS * 16 * 2 * 4 * 4 * 3 };
+
+/* Thresholds against every class, at entry from other controls and by each of the three ways to write VTPR. */
 static void sweep_threshold(struct random *r, uint64_t index, struct trial *t)
 {
     (void)r;
@@ -128,9 +131,8 @@ static void sweep_threshold(struct random *r, uint64_t index, struct trial *t)
     uint32_t threshold = which < 18 ? which : far_thresholds[which - 18], way = digit(&index, 4);
     vtpr += 15 * digit(&index, 2);
     uint32_t controls = choices(&index, GG_USE_TPR_SHADOW | GG_VIRTUAL_INTERRUPT_DELIVERY);
-    controls |= GG_EXTERNAL_INTERRUPT_EXITING;
-    controls |= digit(&index, 2) ? GG_VIRTUALIZE_X2APIC_MODE : GG_VIRTUALIZE_APIC_ACCESSES;
-    busy_guest(t, controls);
+    controls |= GG_EXTERNAL_INTERRUPT_EXITING | reaches[digit(&index, COUNT(reaches))];
+    busy_guest(t, way == 0 ? GG_CR8_STORE_EXITING : controls);
     struct gg_record record = trial_record(t);
     record.threshold = way == 0 ? 3 : threshold;
     record.mode = way == 0 ? GG_ROOT : GG_GUEST;

@@ -14,6 +14,12 @@ static const unsigned exit_reasons[] = {
     GG_EXIT_APIC_ACCESS,      GG_EXIT_VIRTUALIZED_EOI,  GG_EXIT_APIC_WRITE,
 };
 
+/* The entry checks that there are; 5 is none of them. */
+static const unsigned entry_checks[] = {
+    GG_CHECK_TPR_SHADOW_OFF, GG_CHECK_BOTH_APIC_MODES,    GG_CHECK_EXTERNAL_INTERRUPTS,
+    GG_CHECK_TPR_THRESHOLD,  GG_CHECK_TPR_BELOW_THRESHOLD,
+};
+
 /* The answers that each kind can have. */
 static const unsigned possible[ANSWERED_KINDS] = {
     [KIND_UNKNOWN] = BIT(GG_REFUSED),
@@ -101,8 +107,9 @@ void tally_print(const struct tally *tally)
     for (unsigned refusal = 1; refusal < REFUSALS; refusal++)
         printf("  %-24u %12" PRIu64 "\n", refusal, tally->refusals[refusal]);
     printf("entry checks:\n");
-    for (unsigned check = 1; check < CHECKS; check++)
-        printf("  %-24u %12" PRIu64 "\n", check, tally->checks[check]);
+    for (size_t i = 0; i < COUNT(entry_checks); i++)
+        printf("  %2u %-21s %12" PRIu64 "\n", entry_checks[i], show_check(entry_checks[i]),
+               tally->checks[entry_checks[i]]);
     print_cells(tally);
     print_question(tally);
     printf("most vectors in service in a session: %u\n", tally->deepest);
@@ -154,7 +161,7 @@ unsigned tally_missing(const struct tally *tally)
         found += missing(tally->reasons[exit_reasons[i]], "exit", show_reason(exit_reasons[i]));
     for (unsigned refusal = 1; refusal < REFUSALS; refusal++)
         found += missing_number(tally->refusals[refusal], "refusal", refusal);
-    for (unsigned check = 1; check < CHECKS; check++)
-        found += missing_number(tally->checks[check], "entry check", check);
+    for (size_t i = 0; i < COUNT(entry_checks); i++)
+        found += missing(tally->checks[entry_checks[i]], "entry check", show_check(entry_checks[i]));
     return found + missing(tally->deepest >= 10, "nesting of", "10 vectors or more");
 }

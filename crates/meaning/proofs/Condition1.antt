@@ -7,6 +7,7 @@ use mathlib.Core.List.{List}
 use lib.Dec.{eqb, ltb}
 use lib.ListN.{length}
 use Rattle.processor.specs.Controls.{eoiExit}
+use Rattle.processor.specs.Offsets.{vtpr}
 use Rattle.processor.specs.declared.controls.Controls.{Controls}
 use Rattle.processor.specs.declared.controls.Record.{Record}
 use Rattle.events.specs.Answers.{numbers}
@@ -16,6 +17,7 @@ use Rattle.events.specs.declared.answer.Refusal.the-variants.{None, By}
 use Rattle.events.specs.Events.{inBounds, allowed}
 use Rattle.events.specs.declared.event.Event.{Event}
 use Rattle.events.specs.declared.event.Event.the-variants.{Entry, Request, MemoryRead, MemoryWrite, ToCr8, FromCr8, Rdmsr, Wrmsr, Boundary}
+use Rattle.page.specs.Page.{byteAt}
 use Rattle.rules.specs.EntryChecks.{failingCheck}
 use Rattle.meaning.specs.Input.{Input, given, leaves}
 use Rattle.meaning.specs.After.{After, quiet}
@@ -106,13 +108,13 @@ module _ (p : List ℕ) (r : Record) where
         by (By number check) e = (refused-step number check e .page, refused-step number check e .state)
 
   -- an entry that fails a check
-  failed : (e : Event) → eqb (length p) 4096 ≡ true → inBounds r e ≡ true → allowed r e ≡ true → (c : Controls) → e ≡ Entry c → eqb (failingCheck c) 0 ≡ false → Refused 4 (failingCheck c) p r (step p r (given e))
+  failed : (e : Event) → eqb (length p) 4096 ≡ true → inBounds r e ≡ true → allowed r e ≡ true → (c : Controls) → e ≡ Entry c → eqb (failingCheck c (byteAt p vtpr)) 0 ≡ false → Refused 4 (failingCheck c (byteAt p vtpr)) p r (step p r (given e))
   failed e l f m c q n =
-      subst (λ k. Refused 4 k p r (step p r (given e))) (ap eventCheck q)
-      (refused-step (given e) 4 (eventCheck e) (refusal-4 p r (given e) l f m (ap (λ (x : Event). eqb (eventCheck x) 0) q ∙ n)))
+      subst (λ k. Refused 4 k p r (step p r (given e))) (ap (eventCheck p) q)
+      (refused-step (given e) 4 (eventCheck p e) (refusal-4 p r (given e) l f m (ap (λ (x : Event). eqb (eventCheck p x) 0) q ∙ n)))
 
   -- an event whose checks, if it has any, pass
-  unchecked : (e : Event) → ((c : Controls) → e ≡ Entry c → eqb (failingCheck c) 0 ≡ true) → eqb (eventCheck e) 0 ≡ true
+  unchecked : (e : Event) → ((c : Controls) → e ≡ Entry c → eqb (failingCheck c (byteAt p vtpr)) 0 ≡ true) → eqb (eventCheck p e) 0 ≡ true
   unchecked (Entry c) h = h c refl
   unchecked (Request vector) h = refl
   unchecked (MemoryRead offset size fetch already) h = refl

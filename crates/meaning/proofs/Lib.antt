@@ -10,6 +10,7 @@ pub mod Condition1
 pub mod Good
 pub mod Laws
 pub mod LeftOut
+pub mod Threshold
 pub mod Ladder
 pub mod Invariant
 pub mod Theorems

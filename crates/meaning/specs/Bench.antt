@@ -1,5 +1,5 @@
--- Document 01, "Bench cases" K1 to K12, and one of the guest that leaves, as rows of one table: where a row starts, what is done, and
--- what must come of it. Then rows of the search: what it finds on a page.
+-- Document 01, "Bench cases" K1 to K12, one of the guest that leaves, and both sides of E2 of document 02, as rows of one table: where a
+-- row starts, what is done, and what must come of it. Then rows of the search: what it finds on a page.
 use Prim.Native.Nat.{ℕ}
 use mathlib.Core.Bool.{Bool, true, false, _&&_, Bool·beq}
 use mathlib.Core.List.{List, [], _∷_, _++_}
@@ -11,7 +11,7 @@ use Rattle.processor.specs.declared.controls.Controls.{Controls}
 use Rattle.processor.specs.declared.controls.Record.{Record}
 use Rattle.events.specs.declared.event.Event.{Event}
 use Rattle.events.specs.declared.event.Event.the-variants.{Entry, Request, MemoryRead, MemoryWrite, ToCr8, Boundary}
-use Rattle.processor.specs.Offsets.{vtpr, virr, visr}
+use Rattle.processor.specs.Offsets.{vtpr, vppr, virr, visr}
 use Rattle.page.specs.Page.{wordAt}
 use Rattle.stores.specs.Stores.{setByte}
 use Rattle.registers.specs.declared.found.Found.{Found}
@@ -40,16 +40,18 @@ abbrev pub done : Held → Deed → End
 done h (inputs is) = record { answers = answers h is; held = after h is }
 done h pprAlone = record { answers = []; held = record { page = pprVirtualization (h .page) (h .state); state = h .state } }
 
--- a row: the start; the deed; the answers' numbers; mode, RVI, SVI and recognition at the end; words of the page at the end
+-- what is asked of the page at the end: that some words have their values, or that every byte is as at the start
+pub data PageEnd : Type 0 where
+  words : List Word → PageEnd
+  asBefore : PageEnd
+
+-- a row: the start; the deed; the answers' numbers; mode, RVI, SVI, recognition and controls at the end; the page at the end
 pub record Row : Type 0 where
   pub begin : Held
   pub deed : Deed
   pub answers : List Numbers
-  pub guest : Bool
-  pub rvi : ℕ
-  pub svi : ℕ
-  pub recognised : Bool
-  pub words : List Word
+  pub state : Record
+  pub page : PageEnd
 
 abbrev pub sameNumbers : Numbers → Numbers → Bool
 sameNumbers a b = eqb (a .answer) (b .answer) && eqb (a .first) (b .first) && eqb (a .second) (b .second)
@@ -64,12 +66,32 @@ abbrev pub hasWords : List ℕ → List Word → Bool
 hasWords p [] = true
 hasWords p (w ∷ ws) = eqb (wordAt p (w .at)) (w .value) && hasWords p ws
 
+abbrev pub samePage : List ℕ → List ℕ → Bool
+samePage [] [] = true
+samePage [] (b ∷ q) = false
+samePage (a ∷ p) [] = false
+samePage (a ∷ p) (b ∷ q) = eqb a b && samePage p q
+
+-- a page at the end, of a page at the start
+abbrev pub pageEnds : List ℕ → List ℕ → PageEnd → Bool
+pageEnds before p (words ws) = hasWords p ws
+pageEnds before p asBefore = samePage p before
+
+abbrev pub sameControls : Controls → Controls → Bool
+sameControls a b =
+    eqb (a .flags) (b .flags) && eqb (a .threshold) (b .threshold) && eqb (a .«eoi_exit_0») (b .«eoi_exit_0») &&
+    eqb (a .«eoi_exit_1») (b .«eoi_exit_1») && eqb (a .«eoi_exit_2») (b .«eoi_exit_2») && eqb (a .«eoi_exit_3») (b .«eoi_exit_3»)
+
+abbrev pub sameRecord : Record → Record → Bool
+sameRecord a b =
+    Bool·beq (a .guest) (b .guest) && eqb (a .rvi) (b .rvi) && eqb (a .svi) (b .svi) && Bool·beq (a .recognised) (b .recognised) &&
+    sameControls (a .controls) (b .controls)
+
 -- the row holds of the definitions
 abbrev pub endHolds : End → Row → Bool
 endHolds e row =
-    let s = e .held .state in
-    sameAnswers (e .answers) (row .answers) && Bool·beq (s .guest) (row .guest) && eqb (s .rvi) (row .rvi) &&
-    eqb (s .svi) (row .svi) && Bool·beq (s .recognised) (row .recognised) && hasWords (e .held .page) (row .words)
+    sameAnswers (e .answers) (row .answers) && sameRecord (e .held .state) (row .state) &&
+    pageEnds (row .begin .page) (e .held .page) (row .page)
 
 unfoldable pub rowHolds : Row → Bool
 rowHolds row = endHolds (done (row .begin) (row .deed)) row
@@ -95,9 +117,13 @@ controlsM = controls 0x33 0
 abbrev pub controlsR : Controls
 controlsR = controls 0x3b 0
 
+-- mode, RVI, SVI, recognition and controls
+abbrev recordOf : Bool → ℕ → ℕ → Bool → Controls → Record
+recordOf guest rvi svi recognised c = record { guest = guest; rvi = rvi; svi = svi; recognised = recognised; controls = c }
+
 -- in guest mode with the values given and zero elsewhere
 abbrev guestWith : Controls → ℕ → Record
-guestWith c svi = record { guest = true; rvi = 0; svi = svi; recognised = false; controls = c }
+guestWith c svi = recordOf true 0 svi false c
 
 -- a page that is zero but for VTPR
 abbrev vtprPage : ℕ → List ℕ
@@ -111,6 +137,9 @@ delivered vector = numbers 5 vector 0
 
 abbrev exit : ℕ → ℕ → Numbers
 exit reason qualification = numbers 4 reason qualification
+
+abbrev refused : ℕ → ℕ → Numbers
+refused number check = numbers 0 number check
 
 abbrev pub boundaryOpen : Event
 boundaryOpen = Boundary true false false 0
@@ -131,32 +160,38 @@ abbrev write300 : ℕ → Event
 write300 value = MemoryWrite 0x300 4 false false value
 
 -- a row that starts fresh
-abbrev fromFresh : List Input → List Numbers → Bool → ℕ → ℕ → Bool → List Word → Row
-fromFresh is answers guest rvi svi recognised words =
-    record { begin = start; deed = inputs is; answers = answers; guest = guest; rvi = rvi; svi = svi; recognised = recognised; words = words }
+abbrev fromFresh : List Input → List Numbers → Record → List Word → Row
+fromFresh is answers state ws = record { begin = start; deed = inputs is; answers = answers; state = state; page = words ws }
+
+-- a row of one event
+abbrev oneEvent : List ℕ → Record → Event → Numbers → Record → PageEnd → Row
+oneEvent p r e a state page =
+    record { begin = record { page = p; state = r }; deed = inputs (given e ∷ []); answers = a ∷ []; state = state; page = page }
 
 -- a row of one event in guest mode
 abbrev inGuest : Controls → List ℕ → Event → Numbers → Bool → List Word → Row
-inGuest c p e a guest words =
-    record { begin = record { page = p; state = guestWith c 0 }; deed = inputs (given e ∷ []); answers = a ∷ []; guest = guest; rvi = 0; svi = 0; recognised = false; words = words }
+inGuest c p e a guest ws = oneEvent p (guestWith c 0) e a (recordOf guest 0 0 false c) (words ws)
 
 abbrev pub k1 : Row
-k1 = fromFresh (afterK1 controlsV []) answersK1 true 0 0x60 false (word 0x130 1 ∷ word 0x230 0 ∷ word 0x0a0 0x60 ∷ [])
+k1 =
+    fromFresh (afterK1 controlsV []) answersK1 (recordOf true 0 0x60 false controlsV)
+    (word 0x130 1 ∷ word 0x230 0 ∷ word 0x0a0 0x60 ∷ [])
 
 abbrev pub k2 : Row
 k2 =
     fromFresh (afterK1 controlsM (write300 0x0004_0071 ∷ boundaryOpen ∷ [])) (answersK1 ++ (quiet ∷ delivered 0x71 ∷ []))
-    true 0 0x71 false (word 0x130 0x0002_0001 ∷ word 0x0a0 0x70 ∷ [])
+    (recordOf true 0 0x71 false controlsM) (word 0x130 0x0002_0001 ∷ word 0x0a0 0x70 ∷ [])
 
 abbrev pub k3 : Row
 k3 =
     fromFresh (afterK1 controlsM (write300 0x0004_0071 ∷ boundaryOpen ∷ MemoryWrite 0x0b0 4 false false 0 ∷ []))
-    (answersK1 ++ (quiet ∷ delivered 0x71 ∷ quiet ∷ [])) true 0 0x60 false (word 0x130 1 ∷ word 0x0a0 0x60 ∷ [])
+    (answersK1 ++ (quiet ∷ delivered 0x71 ∷ quiet ∷ [])) (recordOf true 0 0x60 false controlsM)
+    (word 0x130 1 ∷ word 0x0a0 0x60 ∷ [])
 
 -- one write to VICR_LO after K1 under M
 abbrev afterK1Write : ℕ → Numbers → Bool → ℕ → Bool → List Word → Row
-afterK1Write value a guest rvi recognised words =
-    fromFresh (afterK1 controlsM (write300 value ∷ [])) (answersK1 ++ (a ∷ [])) guest rvi 0x60 recognised words
+afterK1Write value a guest rvi recognised ws =
+    fromFresh (afterK1 controlsM (write300 value ∷ [])) (answersK1 ++ (a ∷ [])) (recordOf guest rvi 0x60 recognised controlsM) ws
 
 abbrev pub k4 : Row
 k4 = afterK1Write 0x0004_0065 quiet true 0x65 false []
@@ -179,7 +214,8 @@ k7 = afterK1Write 0x0004_000f (exit 56 0x300) false 0 false [] ∷ afterK1Write 
 -- PPR virtualization alone: VTPR and SVI, and the VPPR that comes of them
 abbrev pprRow : ℕ → ℕ → ℕ → Row
 pprRow vtprValue svi vpprValue =
-    record { begin = record { page = vtprPage vtprValue; state = guestWith (controls 0 0) svi }; deed = pprAlone; answers = []; guest = true; rvi = 0; svi = svi; recognised = false; words = word 0x0a0 vpprValue ∷ [] }
+    let r = guestWith (controls 0 0) svi in
+    record { begin = record { page = vtprPage vtprValue; state = r }; deed = pprAlone; answers = []; state = r; page = words (word 0x0a0 vpprValue ∷ []) }
 
 abbrev pub k8 : List Row
 k8 = pprRow 0x6f 0x60 0x6f ∷ pprRow 0x5f 0x63 0x60 ∷ []
@@ -204,17 +240,49 @@ k11 =
     inGuest controlsR zeroPage (MemoryWrite 0x0a0 4 false false 1) (exit 44 0x10a0) false (word 0x0a0 0 ∷ []) ∷ []
 
 abbrev pub k12 : Row
-k12 = fromFresh (each (Request 0 ∷ Entry controlsV ∷ [])) (quiet ∷ quiet ∷ []) true 0 0 false (word 0x200 1 ∷ [])
+k12 = fromFresh (each (Request 0 ∷ Entry controlsV ∷ [])) (quiet ∷ quiet ∷ []) (guestWith controlsV 0) (word 0x200 1 ∷ [])
 
 -- the guest leaves with 71H recognised, and in root mode it cannot leave again
 abbrev pub leaving : Row
 leaving =
-    fromFresh (afterK1 controlsM (write300 0x0004_0071 ∷ []) ++ (leaves ∷ leaves ∷ [])) (answersK1 ++ (quiet ∷ quiet ∷ numbers 0 3 0 ∷ []))
-    false 0x71 0x60 false (word 0x130 1 ∷ word 0x230 0x0002_0000 ∷ word 0x0a0 0x60 ∷ [])
+    fromFresh (afterK1 controlsM (write300 0x0004_0071 ∷ []) ++ (leaves ∷ leaves ∷ [])) (answersK1 ++ (quiet ∷ quiet ∷ refused 3 0 ∷ []))
+    (recordOf false 0x71 0x60 false controlsM) (word 0x130 1 ∷ word 0x230 0x0002_0000 ∷ word 0x0a0 0x60 ∷ [])
 
--- K1 to K12, and the guest that leaves
+-- E2: an entry at VTPR 4F and VPPR 70, in root mode with 52 requested, 31 in service, an interrupt recognised, and other controls
+abbrev entryPage : List ℕ
+entryPage = setByte (vtprPage 0x4f) vppr 0x70
+
+abbrev rootWith : Bool → Controls → Record
+rootWith recognised c = recordOf false 0x52 0x31 recognised c
+
+abbrev atEntry : Controls → Numbers → Record → PageEnd → Row
+atEntry c a state page = oneEvent entryPage (rootWith true (controls 0x120 3)) (Entry c) a state page
+
+-- refused by a check: record and page as before
+abbrev checkFails : ℕ → Controls → Row
+checkFails check c = atEntry c (refused 4 check) (rootWith true (controls 0x120 3)) asBefore
+
+-- exit 43: the record has the new controls, in root mode with nothing recognised
+abbrev exits43 : Controls → Row
+exits43 c = atEntry c (exit 43 0) (rootWith false c) asBefore
+
+-- entered: the record has the new controls, in guest mode
+abbrev enters : Controls → Bool → PageEnd → Row
+enters c recognised page = atEntry c quiet (recordOf true 0x52 0x31 recognised c) page
+
+-- each with control 1 off and on: the threshold above VTPR's class; equal to it; above 15; above the class with VID on; with shadow off
+abbrev pub thresholds : List Row
+thresholds =
+    checkFails 6 (controls 0x01 5) ∷ exits43 (controls 0x03 5) ∷
+    enters (controls 0x01 4) false asBefore ∷ enters (controls 0x03 4) false asBefore ∷
+    checkFails 4 (controls 0x01 16) ∷ checkFails 4 (controls 0x03 16) ∷
+    enters (controls 0x31 5) true (words (word 0x0a0 0x4f ∷ [])) ∷ enters (controls 0x33 5) true (words (word 0x0a0 0x4f ∷ [])) ∷
+    enters (controls 0x00 5) false asBefore ∷ enters (controls 0x02 5) false asBefore ∷
+    checkFails 6 (controls 0x05 5) ∷ []
+
+-- K1 to K12, the guest that leaves, and both sides of E2
 abbrev pub benchRows : List Row
-benchRows = (k1 ∷ k2 ∷ k3 ∷ k4 ∷ k5 ∷ []) ++ k6 ++ k7 ++ k8 ++ k9 ++ k10 ++ k11 ++ (k12 ∷ leaving ∷ [])
+benchRows = (k1 ∷ k2 ∷ k3 ∷ k4 ∷ k5 ∷ []) ++ k6 ++ k7 ++ k8 ++ k9 ++ k10 ++ k11 ++ (k12 ∷ leaving ∷ []) ++ thresholds
 
 -- a row of the search: a page, a register's base, and what is found there
 pub record Search : Type 0 where

@@ -7,6 +7,7 @@ use mathlib.Core.List.{List}
 use lib.Dec.{eqb, ltb}
 use lib.ListN.{length}
 use Rattle.processor.specs.Controls.{flagsInBounds}
+use Rattle.processor.specs.Offsets.{vtpr}
 use Rattle.processor.specs.declared.controls.Controls.{Controls}
 use Rattle.processor.specs.declared.controls.Record.{Record}
 use Rattle.events.specs.declared.answer.Numbers.{Numbers}
@@ -14,6 +15,7 @@ use Rattle.events.specs.Answers.{numbers}
 use Rattle.events.specs.Events.{inBounds, allowed}
 use Rattle.events.specs.declared.event.Event.{Event}
 use Rattle.events.specs.declared.event.Event.the-variants.{Entry}
+use Rattle.page.specs.Page.{byteAt}
 use Rattle.rules.specs.EntryChecks.{failingCheck}
 use Rattle.meaning.specs.After.{After}
 
@@ -44,8 +46,8 @@ pub record Answered (p : List ℕ) (r : Record) (e : Event) (a : After) : Type 0
   pub wrongLength : eqb (length p) 4096 ≡ false → Refused 1 0 p r a
   pub malformed : eqb (length p) 4096 ≡ true → inBounds r e ≡ false → Refused 2 0 p r a
   pub wrongMode : eqb (length p) 4096 ≡ true → inBounds r e ≡ true → allowed r e ≡ false → Refused 3 0 p r a
-  pub failedCheck : eqb (length p) 4096 ≡ true → inBounds r e ≡ true → allowed r e ≡ true → (c : Controls) → e ≡ Entry c → eqb (failingCheck c) 0 ≡ false → Refused 4 (failingCheck c) p r a
-  pub other : eqb (length p) 4096 ≡ true → inBounds r e ≡ true → allowed r e ≡ true → ((c : Controls) → e ≡ Entry c → eqb (failingCheck c) 0 ≡ true) → CarriedOut p r a
+  pub failedCheck : eqb (length p) 4096 ≡ true → inBounds r e ≡ true → allowed r e ≡ true → (c : Controls) → e ≡ Entry c → eqb (failingCheck c (byteAt p vtpr)) 0 ≡ false → Refused 4 (failingCheck c (byteAt p vtpr)) p r a
+  pub other : eqb (length p) 4096 ≡ true → inBounds r e ≡ true → allowed r e ≡ true → ((c : Controls) → e ≡ Entry c → eqb (failingCheck c (byteAt p vtpr)) 0 ≡ true) → CarriedOut p r a
 
 -- A guest that leaves, on any page slice: a malformed record and root mode are refused, in this order, and nothing else is.
 pub record LeaveAnswered (p : List ℕ) (r : Record) (a : After) : Type 0 where

@@ -18,8 +18,8 @@ entered p r =
     if virtualDelivery (r .controls) then evaluatedQuiet (pprVirtualization p r) r
     else quiet p (withRecognised r false)
 
--- After the checks: shadow on, VID off and VTPR's class below the threshold gives exit 43 at once; the record takes these controls,
--- page and RVI, SVI stay. Else guest mode with these controls.
+-- After the checks: with APIC accesses virtualised, a threshold above VTPR's class (shadow on, VID off) gives exit 43 at once; the record
+-- takes these controls, page and RVI, SVI stay. Else guest mode with these controls.
 unfoldable pub entry : List ℕ → Record → Controls → After
 entry p r c =
     if exitsAtEntry c (byteAt p vtpr) then exit 43 0 p (withControls r c)

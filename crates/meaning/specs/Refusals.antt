@@ -7,12 +7,14 @@ use lib.Dec.{eqb}
 use lib.ListN.{length}
 use Rattle.processor.specs.Logic.{if_then_else_}
 use Rattle.processor.specs.Controls.{flagsInBounds}
+use Rattle.processor.specs.Offsets.{vtpr}
 use Rattle.processor.specs.declared.controls.Record.{Record}
 use Rattle.events.specs.Events.{inBounds, allowed}
 use Rattle.events.specs.declared.answer.Refusal.{Refusal}
 use Rattle.events.specs.declared.answer.Refusal.the-variants.{None, By}
 use Rattle.events.specs.declared.event.Event.{Event}
 use Rattle.events.specs.declared.event.Event.the-variants.{Entry, Request, MemoryRead, MemoryWrite, ToCr8, FromCr8, Rdmsr, Wrmsr, Boundary}
+use Rattle.page.specs.Page.{byteAt}
 use Rattle.rules.specs.EntryChecks.{failingCheck}
 use Rattle.meaning.specs.Input.{Input, given, leaves}
 
@@ -32,20 +34,20 @@ modeFits r (given e) = allowed r e
 modeFits r leaves = r .guest
 
 -- 4: the first entry check that fails, 0 where none does or the input is no entry
-abbrev pub eventCheck : Event → ℕ
-eventCheck (Entry controls) = failingCheck controls
-eventCheck (Request vector) = 0
-eventCheck (MemoryRead offset size fetch already) = 0
-eventCheck (MemoryWrite offset size fetch already value) = 0
-eventCheck (ToCr8 value register) = 0
-eventCheck (FromCr8 register) = 0
-eventCheck (Rdmsr index) = 0
-eventCheck (Wrmsr index value) = 0
-eventCheck (Boundary interrupts sti movSs activity) = 0
+abbrev pub eventCheck : List ℕ → Event → ℕ
+eventCheck p (Entry controls) = failingCheck controls (byteAt p vtpr)
+eventCheck p (Request vector) = 0
+eventCheck p (MemoryRead offset size fetch already) = 0
+eventCheck p (MemoryWrite offset size fetch already value) = 0
+eventCheck p (ToCr8 value register) = 0
+eventCheck p (FromCr8 register) = 0
+eventCheck p (Rdmsr index) = 0
+eventCheck p (Wrmsr index value) = 0
+eventCheck p (Boundary interrupts sti movSs activity) = 0
 
-abbrev pub checkOf : Input → ℕ
-checkOf (given e) = eventCheck e
-checkOf leaves = 0
+abbrev pub checkOf : List ℕ → Input → ℕ
+checkOf p (given e) = eventCheck p e
+checkOf p leaves = 0
 
 -- Tested in the order 1, 2, 3, 4, and given in no other case: the refusal of the first test that does not pass.
 abbrev pub firstRefusal : Bool → Bool → Bool → ℕ → Refusal
@@ -58,4 +60,4 @@ firstRefusal page fields mode check =
 
 -- which refusal an input gets, by the four tests
 unfoldable pub refusalOf : List ℕ → Record → Input → Refusal
-refusalOf p r i = firstRefusal (pageFits p i) (fieldsFit r i) (modeFits r i) (checkOf i)
+refusalOf p r i = firstRefusal (pageFits p i) (fieldsFit r i) (modeFits r i) (checkOf p i)

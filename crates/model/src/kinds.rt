@@ -17,8 +17,10 @@ use handlers::cr8;
 use handlers::entry;
 use handlers::memory;
 use handlers::msr;
+use page::bytes::byte_at;
 use processor::controls::Controls;
 use processor::controls::Record;
+use processor::offsets::VTPR;
 use refusals::list::guest_refusal;
 use refusals::list::root_refusal;
 use rules::entry::failing_check;
@@ -30,7 +32,7 @@ pub fn entry(page: &mut [u8], record: Record, controls: Controls) -> Outcome
         page,
         record,
         controls.flags_in_bounds(),
-        failing_check(controls),
+        failing_check(controls, byte_at(page, VTPR)),
     );
     match refusal {
         Refusal::None => entry::entry(page, record, controls),

@@ -12,7 +12,9 @@ use events::answer::Refusal;
 use events::event::Event;
 use events::event::in_bounds;
 use events::event::is_allowed;
+use page::bytes::byte_at;
 use processor::controls::Record;
+use processor::offsets::VTPR;
 use rules::entry::failing_check;
 
 // The refusals by their numbers.
@@ -25,13 +27,13 @@ const MODE: u8 = 3;
 const ENTRY_CHECK: u8 = 4;
 
 // The first entry check that fails, 0 where none does or the event is no entry.
-fn check_of(event: Event) -> u8
-    ensures { λ r. ⌜ r ≡ eventCheck event ⌝ }
+fn check_of(page: &[u8], event: Event) -> u8
+    ensures { λ r. ⌜ r ≡ eventCheck (now (page .entry)) event ⌝ }
 {
     let Event::Entry(controls) = event else {
         return 0;
     };
-    failing_check(controls)
+    failing_check(controls, byte_at(page, VTPR))
 }
 
 // The refusals in their order, by what each test says.
@@ -94,7 +96,7 @@ pub fn refusal_of(page: &[u8], record: Record, event: Event) -> Refusal
         page,
         in_bounds(record, event),
         is_allowed(record, event),
-        check_of(event),
+        check_of(page, event),
     )
 }
 

@@ -1,4 +1,4 @@
--- Document 01, "Entry and request": the checks, and when exit 43 follows at once.
+-- Document 01, "Entry and request", with E2 of document 02: the checks, and when exit 43 follows at once.
 use Prim.Native.Nat.{ℕ}
 use mathlib.Core.Bool.{Bool, not, _&&_, _||_}
 use lib.Dec.{ltb}
@@ -23,15 +23,24 @@ check3 c = virtualDelivery c && not (externalInterruptExiting c)
 abbrev pub check4 : Controls → Bool
 check4 c = useTprShadow c && not (virtualDelivery c) && ltb 15 (c .threshold)
 
+-- E2, both cases: shadow on, VID off, and the threshold above VTPR's class
+abbrev pub thresholdTooHigh : Controls → ℕ → Bool
+thresholdTooHigh c vtpr = useTprShadow c && not (virtualDelivery c) && ltb (class vtpr) (c .threshold)
+
+-- 6, tested after the others: with APIC accesses not virtualised, a threshold above VTPR's class
+abbrev pub check6 : Controls → ℕ → Bool
+check6 c vtpr = not (virtualizeApicAccesses c) && thresholdTooHigh c vtpr
+
 -- The first failing check, or 0 where none fails.
-unfoldable pub failingCheck : Controls → ℕ
-failingCheck c =
+unfoldable pub failingCheck : Controls → ℕ → ℕ
+failingCheck c vtpr =
     if check1 c then 1
     else if check2 c then 2
     else if check3 c then 3
     else if check4 c then 4
+    else if check6 c vtpr then 6
     else 0
 
--- After the checks: shadow on, VID off and VTPR's class below the threshold gives exit 43 at once.
+-- After the checks: only with APIC accesses virtualised does exit 43 follow.
 abbrev pub exitsAtEntry : Controls → ℕ → Bool
-exitsAtEntry c vtpr = useTprShadow c && not (virtualDelivery c) && ltb (class vtpr) (c .threshold)
+exitsAtEntry c vtpr = virtualizeApicAccesses c && thresholdTooHigh c vtpr

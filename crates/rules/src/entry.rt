@@ -1,6 +1,6 @@
 // The entry checks, and when exit 43 follows an entry at once.
 ghost use mathlib.Core.Path.{_≡_};
-ghost use Rattle.rules.specs.EntryChecks.{check1, check2, check3, check4, failingCheck, exitsAtEntry};
+ghost use Rattle.rules.specs.EntryChecks.{check1, check2, check3, check4, thresholdTooHigh, check6, failingCheck, exitsAtEntry};
 use processor::controls::APIC_REGISTER_VIRTUALIZATION;
 use processor::controls::Controls;
 use processor::controls::EXTERNAL_INTERRUPT_EXITING;
@@ -36,9 +36,22 @@ fn check_4(c: Controls) -> bool
     c.is_on(USE_TPR_SHADOW) & !c.is_on(VIRTUAL_DELIVERY) & (15 < c.threshold)
 }
 
+// Shadow on, VID off, and the threshold above VTPR's class.
+fn threshold_too_high(c: Controls, vtpr: u8) -> bool
+    ensures { λ r. ⌜ r ≡ thresholdTooHigh c vtpr ⌝ }
+{
+    c.is_on(USE_TPR_SHADOW) & !c.is_on(VIRTUAL_DELIVERY) & (((vtpr / 16) as u32) < c.threshold)
+}
+
+fn check_6(c: Controls, vtpr: u8) -> bool
+    ensures { λ r. ⌜ r ≡ check6 c vtpr ⌝ }
+{
+    !c.is_on(VIRTUALIZE_APIC_ACCESSES) & threshold_too_high(c, vtpr)
+}
+
 // The first failing check, or 0.
-pub fn failing_check(c: Controls) -> u8
-    ensures { λ r. ⌜ r ≡ failingCheck c ⌝ }
+pub fn failing_check(c: Controls, vtpr: u8) -> u8
+    ensures { λ r. ⌜ r ≡ failingCheck c vtpr ⌝ }
 {
     if check_1(c) {
         return 1;
@@ -52,6 +65,9 @@ pub fn failing_check(c: Controls) -> u8
     if check_4(c) {
         return 4;
     }
+    if check_6(c, vtpr) {
+        return 6;
+    }
     0
 }
 
@@ -59,5 +75,5 @@ pub fn failing_check(c: Controls) -> u8
 pub fn exits_at_entry(c: Controls, vtpr: u8) -> bool
     ensures { λ r. ⌜ r ≡ exitsAtEntry c vtpr ⌝ }
 {
-    c.is_on(USE_TPR_SHADOW) & !c.is_on(VIRTUAL_DELIVERY) & (((vtpr / 16) as u32) < c.threshold)
+    c.is_on(VIRTUALIZE_APIC_ACCESSES) & threshold_too_high(c, vtpr)
 }

@@ -14,19 +14,20 @@ returns c =
     let at-call = c .before .before in
     let told = at-call .before .before in
     let at-refusal = told .before .before in
-    carried _ _ _ _ _ (sym (simp (at-refusal .before .before .flags-in-bounds .ensures, at-refusal .before .failing-check .ensures) at (at-refusal .root-refusal .ensures)) ∙ told .enum-told .given .1) (at-call .entry .ensures)
+    carried _ _ _ _ _ (sym (simp (at-refusal .before .before .before .flags-in-bounds .ensures, at-refusal .before .before .byte-at .ensures, at-refusal .before .failing-check .ensures) at (at-refusal .root-refusal .ensures)) ∙ told .enum-told .given .1) (at-call .entry .ensures)
 
 returns-2 : tie.Need-returns-2
 unfolding refusalOf eventInBounds rootOnly allowed
 returns-2 c =
     let told = c .before .before in
     let at-refusal = told .before .before in
-    refused-by _ _ _ _ _ _ (sym (simp (at-refusal .before .before .flags-in-bounds .ensures, at-refusal .before .failing-check .ensures) at (at-refusal .root-refusal .ensures)) ∙ told .refusal .given .1) (c .refused .ensures _)
+    refused-by _ _ _ _ _ _ (sym (simp (at-refusal .before .before .before .flags-in-bounds .ensures, at-refusal .before .before .byte-at .ensures, at-refusal .before .failing-check .ensures) at (at-refusal .root-refusal .ensures)) ∙ told .refusal .given .1) (c .refused .ensures _)
 
 pub entry-spec : {M : Type 1} → statement M
 entry-spec =
     tie.close
     (tie.spec
+    (λ c κs. tt)
     (λ c κs. tt)
     (λ c κs. tt)
     (λ c κs. tt)
