@@ -121,13 +121,16 @@ enum {
     GG_REFUSED_ENTRY_CHECK = 4
 };
 
-/* Entry checks, in the order in which they are tested; the number 5 is kept. Check 6 alone reads the page. */
+/*
+ * Entry checks, in the order in which they are tested; the number 5 is kept for a later one. Check 6 alone reads
+ * the page: with APIC accesses virtualised, what it looks for is GG_EXIT_TPR_BELOW_THRESHOLD instead.
+ */
 enum {
-    GG_CHECK_TPR_SHADOW_OFF = 1,         /* x2APIC mode, registers or VID without the shadow */
-    GG_CHECK_BOTH_APIC_MODES = 2,        /* APIC accesses together with x2APIC mode */
-    GG_CHECK_EXTERNAL_INTERRUPTS = 3,    /* VID without external-interrupt exiting */
-    GG_CHECK_TPR_THRESHOLD = 4,          /* shadow without VID and a threshold above 15 */
-    GG_CHECK_TPR_BELOW_THRESHOLD = 6     /* shadow without VID and APIC accesses, threshold above VTPR's class */
+    GG_CHECK_TPR_SHADOW_OFF = 1,      /* x2APIC mode, registers or VID without the shadow */
+    GG_CHECK_BOTH_APIC_MODES = 2,     /* APIC accesses together with x2APIC mode */
+    GG_CHECK_EXTERNAL_INTERRUPTS = 3, /* VID without external-interrupt exiting */
+    GG_CHECK_TPR_THRESHOLD = 4,       /* shadow without VID and a threshold above 15 */
+    GG_CHECK_TPR_BELOW_THRESHOLD = 6  /* shadow, neither VID nor APIC accesses, a threshold above VTPR's class */
 };
 
 /* Basic exit reasons: before the instruction, nothing of it is done; after it, its write stays. */

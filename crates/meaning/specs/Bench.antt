@@ -118,12 +118,12 @@ abbrev pub controlsR : Controls
 controlsR = controls 0x3b 0
 
 -- mode, RVI, SVI, recognition and controls
-abbrev recordOf : Bool → ℕ → ℕ → Bool → Controls → Record
-recordOf guest rvi svi recognised c = record { guest = guest; rvi = rvi; svi = svi; recognised = recognised; controls = c }
+abbrev stateOf : Bool → ℕ → ℕ → Bool → Controls → Record
+stateOf guest rvi svi recognised c = record { guest = guest; rvi = rvi; svi = svi; recognised = recognised; controls = c }
 
 -- in guest mode with the values given and zero elsewhere
 abbrev guestWith : Controls → ℕ → Record
-guestWith c svi = recordOf true 0 svi false c
+guestWith c svi = stateOf true 0 svi false c
 
 -- a page that is zero but for VTPR
 abbrev vtprPage : ℕ → List ℕ
@@ -170,28 +170,28 @@ oneEvent p r e a state page =
 
 -- a row of one event in guest mode
 abbrev inGuest : Controls → List ℕ → Event → Numbers → Bool → List Word → Row
-inGuest c p e a guest ws = oneEvent p (guestWith c 0) e a (recordOf guest 0 0 false c) (words ws)
+inGuest c p e a guest ws = oneEvent p (guestWith c 0) e a (stateOf guest 0 0 false c) (words ws)
 
 abbrev pub k1 : Row
 k1 =
-    fromFresh (afterK1 controlsV []) answersK1 (recordOf true 0 0x60 false controlsV)
+    fromFresh (afterK1 controlsV []) answersK1 (stateOf true 0 0x60 false controlsV)
     (word 0x130 1 ∷ word 0x230 0 ∷ word 0x0a0 0x60 ∷ [])
 
 abbrev pub k2 : Row
 k2 =
     fromFresh (afterK1 controlsM (write300 0x0004_0071 ∷ boundaryOpen ∷ [])) (answersK1 ++ (quiet ∷ delivered 0x71 ∷ []))
-    (recordOf true 0 0x71 false controlsM) (word 0x130 0x0002_0001 ∷ word 0x0a0 0x70 ∷ [])
+    (stateOf true 0 0x71 false controlsM) (word 0x130 0x0002_0001 ∷ word 0x0a0 0x70 ∷ [])
 
 abbrev pub k3 : Row
 k3 =
     fromFresh (afterK1 controlsM (write300 0x0004_0071 ∷ boundaryOpen ∷ MemoryWrite 0x0b0 4 false false 0 ∷ []))
-    (answersK1 ++ (quiet ∷ delivered 0x71 ∷ quiet ∷ [])) (recordOf true 0 0x60 false controlsM)
+    (answersK1 ++ (quiet ∷ delivered 0x71 ∷ quiet ∷ [])) (stateOf true 0 0x60 false controlsM)
     (word 0x130 1 ∷ word 0x0a0 0x60 ∷ [])
 
 -- one write to VICR_LO after K1 under M
 abbrev afterK1Write : ℕ → Numbers → Bool → ℕ → Bool → List Word → Row
 afterK1Write value a guest rvi recognised ws =
-    fromFresh (afterK1 controlsM (write300 value ∷ [])) (answersK1 ++ (a ∷ [])) (recordOf guest rvi 0x60 recognised controlsM) ws
+    fromFresh (afterK1 controlsM (write300 value ∷ [])) (answersK1 ++ (a ∷ [])) (stateOf guest rvi 0x60 recognised controlsM) ws
 
 abbrev pub k4 : Row
 k4 = afterK1Write 0x0004_0065 quiet true 0x65 false []
@@ -246,38 +246,47 @@ k12 = fromFresh (each (Request 0 ∷ Entry controlsV ∷ [])) (quiet ∷ quiet �
 abbrev pub leaving : Row
 leaving =
     fromFresh (afterK1 controlsM (write300 0x0004_0071 ∷ []) ++ (leaves ∷ leaves ∷ [])) (answersK1 ++ (quiet ∷ quiet ∷ refused 3 0 ∷ []))
-    (recordOf false 0x71 0x60 false controlsM) (word 0x130 1 ∷ word 0x230 0x0002_0000 ∷ word 0x0a0 0x60 ∷ [])
+    (stateOf false 0x71 0x60 false controlsM) (word 0x130 1 ∷ word 0x230 0x0002_0000 ∷ word 0x0a0 0x60 ∷ [])
 
--- E2: an entry at VTPR 4F and VPPR 70, in root mode with 52 requested, 31 in service, an interrupt recognised, and other controls
+-- E2: an entry at VTPR 4F and VPPR 70, from root mode with RVI 52, SVI 31, an interrupt recognised and controls of its own
 abbrev entryPage : List ℕ
 entryPage = setByte (vtprPage 0x4f) vppr 0x70
 
-abbrev rootWith : Bool → Controls → Record
-rootWith recognised c = recordOf false 0x52 0x31 recognised c
+abbrev controlsBefore : Controls
+controlsBefore = record { flags = 0x120; threshold = 3; «eoi_exit_0» = 0; «eoi_exit_1» = 1; «eoi_exit_2» = 0; «eoi_exit_3» = 0 }
+
+abbrev beforeEntry : Record
+beforeEntry = stateOf false 0x52 0x31 true controlsBefore
 
 abbrev atEntry : Controls → Numbers → Record → PageEnd → Row
-atEntry c a state page = oneEvent entryPage (rootWith true (controls 0x120 3)) (Entry c) a state page
+atEntry c a state page = oneEvent entryPage beforeEntry (Entry c) a state page
 
 -- refused by a check: record and page as before
 abbrev checkFails : ℕ → Controls → Row
-checkFails check c = atEntry c (refused 4 check) (rootWith true (controls 0x120 3)) asBefore
+checkFails check c = atEntry c (refused 4 check) beforeEntry asBefore
 
 -- exit 43: the record has the new controls, in root mode with nothing recognised
 abbrev exits43 : Controls → Row
-exits43 c = atEntry c (exit 43 0) (rootWith false c) asBefore
+exits43 c = atEntry c (exit 43 0) (stateOf false 0x52 0x31 false c) asBefore
 
 -- entered: the record has the new controls, in guest mode
 abbrev enters : Controls → Bool → PageEnd → Row
-enters c recognised page = atEntry c quiet (recordOf true 0x52 0x31 recognised c) page
+enters c recognised page = atEntry c quiet (stateOf true 0x52 0x31 recognised c) page
 
--- each with control 1 off and on: the threshold above VTPR's class; equal to it; above 15; above the class with VID on; with shadow off
+-- each with control 1 off, then on; last, with control 1 off and x2APIC mode
 abbrev pub thresholds : List Row
 thresholds =
+    -- the threshold above VTPR's class
     checkFails 6 (controls 0x01 5) ∷ exits43 (controls 0x03 5) ∷
+    -- VTPR's class equal to it
     enters (controls 0x01 4) false asBefore ∷ enters (controls 0x03 4) false asBefore ∷
+    -- the threshold above 15
     checkFails 4 (controls 0x01 16) ∷ checkFails 4 (controls 0x03 16) ∷
+    -- above VTPR's class with VID on
     enters (controls 0x31 5) true (words (word 0x0a0 0x4f ∷ [])) ∷ enters (controls 0x33 5) true (words (word 0x0a0 0x4f ∷ [])) ∷
+    -- above VTPR's class with the shadow off
     enters (controls 0x00 5) false asBefore ∷ enters (controls 0x02 5) false asBefore ∷
+    -- above VTPR's class in x2APIC mode
     checkFails 6 (controls 0x05 5) ∷ []
 
 -- K1 to K12, the guest that leaves, and both sides of E2
