@@ -130,23 +130,24 @@ static struct outcome self_ipi(struct apic *a, unsigned vector)
     return quiet();
 }
 
-/* E2: shadow on, VID off, and a threshold that VTPR's class does not reach. */
-static bool threshold_too_high(const struct happening *e, unsigned vtpr)
+/* E2: the entry's threshold counts, shadow on and VID off, and the priority given is of a class below it. */
+static bool enters_below(const struct happening *e, unsigned priority)
 {
     uint32_t c = (uint32_t)e->value;
-    return in(c, SHADOW) && !in(c, DELIVERY) && class_of(vtpr) < e->number;
+    return in(c, SHADOW) && !in(c, DELIVERY) && class_of(priority) < e->number;
 }
 
+/* Check 6: such an entry fails where no APIC accesses are virtualised. */
 static bool check_6_fails(const struct happening *e, const uint8_t *page)
 {
     if (FAULT(CHECK_6_DROPPED) || FAULT(CHECK_6_EXITS))
         return false;
-    unsigned vtpr = page[FAULT(CHECK_6_VPPR) ? VPPR : VTPR];
-    bool unvirtualised = !in((uint32_t)e->value, ACCESSES) || FAULT(CHECK_6_ACCESSES);
-    return unvirtualised && threshold_too_high(e, vtpr);
+    if (in((uint32_t)e->value, ACCESSES) && !FAULT(CHECK_6_ACCESSES))
+        return false;
+    return enters_below(e, page[FAULT(CHECK_6_VPPR) ? VPPR : VTPR]);
 }
 
-/* The number of the first entry check that fails, 0 where none does; 5 is no check yet. */
+/* The number of the first entry check that fails, 0 where none does; there is no check 5. */
 static unsigned failing_check(const struct happening *e, const uint8_t *page)
 {
     uint32_t c = (uint32_t)e->value;
@@ -178,12 +179,12 @@ static struct outcome entry(struct apic *a, const struct happening *e)
 {
     struct cpu before = *a->cpu;
     unsigned check = failing_check(e, a->page);
-    if (!check || FAULT(CHECK_6_TAKES))
+    if (!check || (FAULT(CHECK_6_TAKES) && check == 6))
         take_controls(a->cpu, e);
     if (check)
         return answer(REFUSED, 4, check);
-    bool exits = (on(a, ACCESSES) || FAULT(CHECK_6_EXITS)) && threshold_too_high(e, a->page[VTPR]);
-    if (exits && !FAULT(ENTRY_NO_43)) {
+    bool exits = on(a, ACCESSES) || FAULT(CHECK_6_EXITS);
+    if (exits && enters_below(e, a->page[VTPR]) && !FAULT(ENTRY_NO_43)) {
         if (FAULT(ENTRY_43_DROPS))
             *a->cpu = before;
         return leave(a, 43, 0);

@@ -14,7 +14,7 @@ static const unsigned exit_reasons[] = {
     GG_EXIT_APIC_ACCESS,      GG_EXIT_VIRTUALIZED_EOI,  GG_EXIT_APIC_WRITE,
 };
 
-/* The entry checks that there are; 5 is none of them. */
+/* The entry checks; there is no check 5. */
 static const unsigned entry_checks[] = {
     GG_CHECK_TPR_SHADOW_OFF, GG_CHECK_BOTH_APIC_MODES,    GG_CHECK_EXTERNAL_INTERRUPTS,
     GG_CHECK_TPR_THRESHOLD,  GG_CHECK_TPR_BELOW_THRESHOLD,
