@@ -3,7 +3,7 @@ ghost use mathlib.Core.Path.{_≡_};
 ghost use mathlib.Core.List.{List};
 ghost use Prim.Native.Nat.{ℕ};
 ghost use lib.ListN.{length, replicate};
-ghost use Rattle.replies.specs.Replies.{Replies, ggStep, ggLeave};
+ghost use Rattle.replies.specs.Replies.{Replies, RepliesLent, ggStep, ggExternalInterrupt, ggLeave};
 ghost use Rattle.capi.specs.Calls.{Handed, FreshReplies, foundNumbers, ggHighest, ggFresh};
 use events::answer::Numbers;
 use events::answer::numbered;
@@ -12,6 +12,7 @@ use processor::offsets::VISR;
 use registers::found::Found;
 use registers::vectors::highest_request;
 use registers::vectors::highest_service;
+use replies::external_bytes;
 use replies::leave_bytes;
 use replies::step_bytes;
 
@@ -36,6 +37,25 @@ pub extern "C" fn gg_step(
     ensures { λ r. ⌜ Replies (ggStep (now (page .entry)) (now («record» .entry)) (now (event .entry))) r (now (first .exit)) (now (second .exit)) (now («record» .exit)) (now (page .exit)) ⌝ }
 {
     hand_over(step_bytes(page, record, event), first, second)
+}
+
+// An external interrupt on a page, a record and a descriptor: the answer's number comes back, its two values go to first and second.
+#[no_mangle]
+pub extern "C" fn gg_external_interrupt(
+    page: &mut [u8],
+    record: &mut [u8],
+    descriptor: &mut [u8],
+    vector: u32,
+    first: &mut u64,
+    second: &mut u64,
+) -> u32
+    ensures { λ r. ⌜ RepliesLent (ggExternalInterrupt (now (page .entry)) (now («record» .entry)) (now (descriptor .entry)) vector) r (now (first .exit)) (now (second .exit)) (now («record» .exit)) (now (page .exit)) (now (descriptor .exit)) ⌝ }
+{
+    hand_over(
+        external_bytes(page, record, descriptor, vector),
+        first,
+        second,
+    )
 }
 
 // The guest leaves for a reason outside the model: the answer's number comes back, its two values go to first and second.

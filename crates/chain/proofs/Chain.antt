@@ -13,20 +13,24 @@ use Rattle.processor.proofs.Tests.{left, right}
 use Rattle.events.specs.Answers.{numbers}
 use Rattle.events.specs.declared.event.Event.the-variants.{Entry, FromCr8, Rdmsr}
 use Rattle.page.specs.Page.{byteAt, wordAt, longAt, wordWithin, longWithin, IsPage}
-use Rattle.stores.specs.Stores.{setWord, setLong}
-use Rattle.meaning.specs.Input.{Input, given, leaves}
+use Rattle.stores.specs.Stores.{setHalf, setWord, setLong}
+use Rattle.meaning.specs.Input.{Input, given, external, leaves}
 use Rattle.meaning.specs.After.{After}
-use Rattle.meaning.specs.Step.{step}
+use Rattle.meaning.specs.Refusals.{refusalOf}
+use Rattle.meaning.specs.External.{descriptorBy}
+use Rattle.meaning.specs.Step.{stepBy, step, descriptorAfter}
 use Rattle.meaning.specs.Run.{Held, start, stepOf, heldAfter, after}
 use Rattle.meaning.specs.Widths.{ControlsFit, RecordFits, InputFits}
+use Rattle.meaning.proofs.Refused.{refusal-5}
 use Rattle.meaning.proofs.Condition1.{nothing-changes}
 use Rattle.meaning.proofs.Laws.{laws, fits}
 use Rattle.meaning.proofs.Invariant.{start-inv}
+use Rattle.descriptor.specs.Descriptor.{descriptorFits}
 use Rattle.layout.specs.RecordBytes.{controlsOf, controlsBytes, reservedZero, recordReadable, recordOf, truthByte, recordBytes, bytesOf, kept}
 use Rattle.replies.specs.EventBytes.{eventReadable, memoryReadOf, memoryWriteOf, toCr8Of, wrmsrOf, boundaryOf, requestOf, eventOf}
-use Rattle.replies.specs.Replies.{Reply, refused, replied, modelReply, ggStep, leaveReply, ggLeave}
+use Rattle.replies.specs.Replies.{Reply, refused, replied, modelReply, ggStep, externalReply, ggExternalInterrupt, leaveReply, ggLeave}
 use Rattle.layout.proofs.RoundTrip.{stored-length, read-back, stored-readable, stored-over}
-use Rattle.chain.specs.Chain.{Call, steps, leave, Lent, begin, replyTo, chain, brought, canBeRead, inputOf, inputs, told, CallBytes, AllBytes, heldOf, IsRun}
+use Rattle.chain.specs.Chain.{Call, steps, interrupts, leave, Lent, begin, replyTo, chain, brought, canBeRead, inputOf, inputs, told, CallBytes, AllBytes, heldOf, IsRun, LeavesDescriptor}
 
 -- ---- an entry's controls, read from bytes, fit
 word-fits : (e : List ℕ) (at : ℕ) → ((i : ℕ) → byteAt e i < 256) → wordAt e at < 2 ^ 32
@@ -57,6 +61,7 @@ unfolding controlsOf
 controls-fit e h = record {
   flags = within-word e 8 h;
   threshold = within-word e 4 h;
+  notification = omega arith;
   eoi₀ = within-long e 16 h;
   eoi₁ = within-long e 24 h;
   eoi₂ = within-long e 32 h;
@@ -88,8 +93,12 @@ event-fits e h c q = by (eqb (byteAt e 0) 1) (eqb (byteAt e 0) 2) (eqb (byteAt e
 leave-fits : InputFits leaves
 leave-fits c q = absurd (clash (cc))
 
+external-fits : (d : List ℕ) (vector : ℕ) → InputFits (external d vector)
+external-fits d vector c q = absurd (clash (cc))
+
 call-fits : (c : Call) → CallBytes c → InputFits (inputOf c)
 call-fits (steps e) h = event-fits e h
+call-fits (interrupts d vector) h = external-fits d vector
 call-fits leave h = leave-fits
 
 -- ---- the bytes of a record: 48 that can be read, as that record
@@ -144,6 +153,27 @@ module _ (p : List ℕ) (r : Record) (g : IsPage p) (f : RecordFits r) where
   unfolding ggLeave leaveReply
   leave-read = simp (eq-eqb (length (bytesOf r)) 48 (bytes-length r), bytes-readable r, bytes-read r f) (took leaves)
 
+  -- the same of an external interrupt: a descriptor of another length is refused before the record is read, and by the model too
+  refused-5 : (d : List ℕ) (vector : ℕ) → descriptorFits d ≡ false → refused 5 p (bytesOf r) ≡ shown (step p r (external d vector))
+  unfolding step stepBy
+  refused-5 d vector q = simp (refusal-5 p r (external d vector) (eq-eqb (length p) 4096 (g .size)) q)
+
+  external-read : (d : List ℕ) (vector : ℕ) → ggExternalInterrupt p (bytesOf r) d vector .reply ≡ shown (step p r (external d vector))
+  unfolding ggExternalInterrupt externalReply
+  external-read d vector = by (descriptorFits d) refl
+    where
+      by : (x : Bool) → descriptorFits d ≡ x → ggExternalInterrupt p (bytesOf r) d vector .reply ≡ shown (step p r (external d vector))
+      by true q = simp (eq-eqb (length p) 4096 (g .size), q, eq-eqb (length (bytesOf r)) 48 (bytes-length r), bytes-readable r, bytes-read r f) (took (external d vector))
+      by false q = simp (eq-eqb (length p) 4096 (g .size), q) (refused-5 d vector q)
+
+  external-left : (d : List ℕ) (vector : ℕ) → ggExternalInterrupt p (bytesOf r) d vector .descriptor ≡ descriptorAfter p r d vector
+  unfolding ggExternalInterrupt externalReply descriptorAfter descriptorBy
+  external-left d vector = by (descriptorFits d) refl
+    where
+      by : (x : Bool) → descriptorFits d ≡ x → ggExternalInterrupt p (bytesOf r) d vector .descriptor ≡ descriptorAfter p r d vector
+      by true q = simp (eq-eqb (length p) 4096 (g .size), q, eq-eqb (length (bytesOf r)) 48 (bytes-length r), bytes-readable r, bytes-read r f)
+      by false q = simp (eq-eqb (length p) 4096 (g .size), q, refusal-5 p r (external d vector) (eq-eqb (length p) 4096 (g .size)) q)
+
   -- any other is refused, and changes nothing
   step-unread : (e : List ℕ) → (eqb (length e) 48 && eventReadable e) ≡ false → ggStep p (bytesOf r) e ≡ refused 2 p (bytesOf r)
   unfolding ggStep
@@ -157,10 +187,12 @@ module _ (p : List ℕ) (r : Record) (g : IsPage p) (f : RecordFits r) where
 module _ (h : Held) (w : Whole h) where
   reply-read : (c : Call) → canBeRead c ≡ true → replyTo (lentOf h) c ≡ shown (stepOf h (inputOf c))
   reply-read (steps e) q = step-read (h .page) (h .state) (w .isPage) (w .fit) e (left (eqb (length e) 48) (eventReadable e) q) (right (eqb (length e) 48) (eventReadable e) q)
+  reply-read (interrupts d vector) q = external-read (h .page) (h .state) (w .isPage) (w .fit) d vector
   reply-read leave q = leave-read (h .page) (h .state) (w .isPage) (w .fit)
 
   reply-unread : (c : Call) → canBeRead c ≡ false → replyTo (lentOf h) c ≡ refused 2 (h .page) (bytesOf (h .state))
   reply-unread (steps e) q = step-unread (h .page) (h .state) (w .isPage) (w .fit) e q
+  reply-unread (interrupts d vector) q = absurd (true≢false q)
   reply-unread leave q = absurd (true≢false q)
 
   whole-after : (c : Call) → CallBytes c → Whole (heldAfter (stepOf h (inputOf c)))
@@ -197,12 +229,12 @@ start-whole = record {
   isPage = start-inv .isPage;
   fit = record {
     vectors = record { rvi = lit< tt; svi = lit< tt };
-    controls = record { flags = lit< tt; threshold = lit< tt; eoi₀ = lit< tt; eoi₁ = lit< tt; eoi₂ = lit< tt; eoi₃ = lit< tt };
+    controls = record { flags = lit< tt; threshold = lit< tt; notification = lit< tt; eoi₀ = lit< tt; eoi₁ = lit< tt; eoi₂ = lit< tt; eoi₃ = lit< tt };
   };
 }
 
 start-lent : begin ≡ lentOf start
-unfolding recordBytes controlsBytes setWord setLong truthByte
+unfolding recordBytes controlsBytes setHalf setWord setLong truthByte
 start-lent = refl
 
 pub chain-is-run : (cs : List Call) → AllBytes cs → IsRun cs
@@ -218,3 +250,11 @@ chain-is-run cs b =
           subst (λ l. heldOf l ≡ after start (inputs cs)) (sym led)
           (ap (λ r. record { page = after start (inputs cs) .page; state = r }) (bytes-read (after start (inputs cs) .state) (f .whole .fit)));
     }
+
+-- the descriptor that a call leaves after any others
+pub chain-descriptor : (cs : List Call) (d : List ℕ) (vector : ℕ) → AllBytes cs → LeavesDescriptor cs d vector
+chain-descriptor cs d vector b =
+    let f : Follows start cs = follows start cs start-whole b in
+    let h : Held = after start (inputs cs) in
+    ap (λ (l : Lent). ggExternalInterrupt (l .page) (l .recordBytes) d vector .descriptor) (ap (λ l. chain l cs) start-lent ∙ f .lent)
+    ∙ external-left (h .page) (h .state) (f .whole .isPage) (f .whole .fit) d vector

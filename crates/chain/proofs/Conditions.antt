@@ -11,19 +11,21 @@ use Rattle.processor.specs.Offsets.{virr, visr}
 use Rattle.registers.specs.declared.found.Found.{Found}
 use Rattle.registers.specs.declared.found.Found.the-variants.{None, Vector}
 use Rattle.registers.specs.Vectors.{highestSet, orElse, highest}
-use Rattle.meaning.specs.Input.{Input, given, leaves}
+use Rattle.meaning.specs.Input.{Input, given, external, leaves}
 use Rattle.meaning.specs.Step.{step}
 use Rattle.meaning.specs.Run.{Held, start, after}
 use Rattle.meaning.specs.History.{allOn, serving}
 use Rattle.meaning.specs.Condition3.{Highest, Recognition, Served, Rising, Retires, Keeps, AtMost15, Delivers16}
-use Rattle.meaning.proofs.Condition1.{nothing-changes}
+use Rattle.descriptor.specs.Descriptor.{descriptorFits}
+use Rattle.meaning.specs.Condition1.{ExternalAnswered}
+use Rattle.meaning.proofs.Condition1.{nothing-changes, external-answered}
 use Rattle.meaning.proofs.Invariant.{run-inv, start-inv}
 use Rattle.meaning.proofs.Theorems.{rvi-svi-highest, recognised-exactly, in-service-exactly, classes-rise, eoi-retires-latest, nothing-else-retires, at-most-15, none-below-16}
 use Rattle.layout.specs.RecordBytes.{recordReadable, recordOf, recordBytes, kept}
 use Rattle.replies.specs.EventBytes.{eventReadable, eventOf}
-use Rattle.replies.specs.Replies.{refused, replied, modelReply, ggStep, leaveReply, ggLeave}
+use Rattle.replies.specs.Replies.{LentReply, refused, refusedLent, replied, modelReply, ggStep, externalReply, ggExternalInterrupt, leaveReply, ggLeave}
 use Rattle.capi.specs.Calls.{foundNumbers, ggHighest}
-use Rattle.chain.specs.Chain.{Call, begin, chain, inputs, AllBytes, heldOf, Tells, vector, none, Asked, Untouched}
+use Rattle.chain.specs.Chain.{Call, begin, chain, inputs, AllBytes, heldOf, Tells, vector, none, Asked, Untouched, UntouchedLent}
 use Rattle.chain.proofs.Chain.{chain-is-run}
 
 -- ---- condition 1: a refused call leaves every lent byte, whatever the bytes are
@@ -47,6 +49,20 @@ step-refused p b e = by (eqb (length p) 4096) (eqb (length b) 48) (eqb (length e
     by true true false w = unchanged 2 p b
     by true true true false = unchanged 2 p b
     by true true true true = replied-stays p b (given (eventOf e))
+
+pub external-refused : (p b d : List ℕ) (v : ℕ) → UntouchedLent p b d (ggExternalInterrupt p b d v)
+unfolding ggExternalInterrupt externalReply
+external-refused p b d v = by (eqb (length p) 4096) (descriptorFits d) (eqb (length b) 48) (recordReadable b)
+  where
+    stays : (number : ℕ) → UntouchedLent p b d (refusedLent number p b d)
+    stays number = (unchanged number p b, λ z. refl)
+
+    by : (x y z w : Bool) → UntouchedLent p b d (if not x then refusedLent 1 p b d else (if not y then refusedLent 5 p b d else (if not z then refusedLent 2 p b d else (if not w then refusedLent 2 p b d else externalReply p b d v))))
+    by false y z w = stays 1
+    by true false z w = stays 5
+    by true true false w = stays 2
+    by true true true false = stays 2
+    by true true true true = (replied-stays p b (external d v), λ n. external-answered p (recordOf b) d v .descriptor .kept (ap (λ m. eqb m 6) n))
 
 pub leave-refused : (p b : List ℕ) → Untouched p b (ggLeave p b)
 unfolding ggLeave leaveReply

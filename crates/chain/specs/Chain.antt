@@ -10,16 +10,18 @@ use Rattle.processor.specs.Offsets.{virr, visr}
 use Rattle.events.specs.Answers.{numbers}
 use Rattle.events.specs.declared.answer.Numbers.{Numbers}
 use Rattle.page.specs.Page.{byteAt}
-use Rattle.meaning.specs.Input.{Input, given, leaves}
+use Rattle.meaning.specs.Input.{Input, given, external, leaves}
+use Rattle.meaning.specs.Step.{descriptorAfter}
 use Rattle.meaning.specs.Run.{zeroPage, Held, start, stepOf, heldAfter, after}
 use Rattle.layout.specs.RecordBytes.{recordReadable, recordOf, bytesOf}
 use Rattle.replies.specs.EventBytes.{eventReadable, eventOf}
-use Rattle.replies.specs.Replies.{Reply, ggStep, ggLeave}
+use Rattle.replies.specs.Replies.{Reply, LentReply, ggStep, ggExternalInterrupt, ggLeave}
 use Rattle.capi.specs.Calls.{ggHighest}
 
--- gg_step on an event's bytes, or gg_leave
+-- gg_step on an event's bytes, gg_external_interrupt with a descriptor's bytes and a vector, or gg_leave
 pub data Call : Type 0 where
   steps : List ℕ → Call
+  interrupts : List ℕ → ℕ → Call
   leave : Call
 
 -- the page and the record's bytes that a simulator lends to each call
@@ -33,6 +35,7 @@ begin = record { page = zeroPage; recordBytes = replicate 48 0 }
 
 abbrev pub replyTo : Lent → Call → Reply
 replyTo l (steps e) = ggStep (l .page) (l .recordBytes) e
+replyTo l (interrupts d vector) = ggExternalInterrupt (l .page) (l .recordBytes) d vector .reply
 replyTo l leave = ggLeave (l .page) (l .recordBytes)
 
 abbrev pub lentAfter : Reply → Lent
@@ -53,10 +56,12 @@ brought l (c ∷ cs) = numbersOfReply (replyTo l c) ∷ brought (lentAfter (repl
 -- an event's bytes can be read where they are 48 and hold an event
 abbrev pub canBeRead : Call → Bool
 canBeRead (steps e) = eqb (length e) 48 && eventReadable e
+canBeRead (interrupts d vector) = true
 canBeRead leave = true
 
 abbrev pub inputOf : Call → Input
 inputOf (steps e) = given (eventOf e)
+inputOf (interrupts d vector) = external d vector
 inputOf leave = leaves
 
 -- the inputs read from the calls; a call that cannot be read brings none
@@ -74,6 +79,7 @@ told h (c ∷ cs) =
 -- an event's bytes are bytes
 abbrev pub CallBytes : Call → Type 0
 CallBytes (steps e) = (i : ℕ) → byteAt e i < 256
+CallBytes (interrupts d vector) = Unit
 CallBytes leave = Unit
 
 abbrev pub AllBytes : List Call → Type 0
@@ -106,3 +112,13 @@ pub record Asked (h : Held) : Type 0 where
 -- A refused call leaves every lent byte.
 abbrev pub Untouched : List ℕ → List ℕ → Reply → Type 0
 Untouched p b a = a .answer ≡ 0 → (a .page ≡ p) × (a .recordBytes ≡ b)
+
+-- and so does a refused gg_external_interrupt, the descriptor's among them
+abbrev pub UntouchedLent : List ℕ → List ℕ → List ℕ → LentReply → Type 0
+UntouchedLent p b d a = Untouched p b (a .reply) × (a .reply .answer ≡ 0 → a .descriptor ≡ d)
+
+-- After any calls gg_external_interrupt leaves the descriptor that the run's external interrupt leaves.
+abbrev pub LeavesDescriptor : List Call → List ℕ → ℕ → Type 0
+LeavesDescriptor cs d v =
+    ggExternalInterrupt (chain begin cs .page) (chain begin cs .recordBytes) d v .descriptor
+    ≡ descriptorAfter (after start (inputs cs) .page) (after start (inputs cs) .state) d v

@@ -4,5 +4,5 @@ pub mod cr8;
 pub mod entry;
 pub mod memory;
 pub mod msr;
-mod outcome;
-mod procedures;
+pub mod outcome;
+pub mod procedures;

@@ -8,10 +8,11 @@ use mathlib.Core.Bool.{Bool, true, false}
 use mathlib.Core.List.{List, [], _∷_}
 use lib.Dec.{eqb, ltb}
 use lib.ListN.{length, getD}
+use borrow.Author.Tests.{lt-ltb, ltb-true}
 use Rattle.processor.specs.Logic.{if_then_else_}
 use Rattle.processor.specs.declared.controls.Record.{Record}
 use Rattle.page.specs.Page.{wordOf, wordAt, longAt, wordWithin, longWithin}
-use Rattle.stores.specs.Stores.{setWord, setLong}
+use Rattle.stores.specs.Stores.{setHalf, setWord, setLong}
 use Rattle.meaning.specs.Widths.{RecordFits}
 use Rattle.layout.specs.RecordBytes.{controlsOf, controlsBytes, reservedZero, recordReadable, recordOf, truthByte, statusBytes, recordBytes, kept, keptStatus}
 
@@ -21,6 +22,9 @@ word-again x h = digits (x / 0x100) (x / 0x1_0000) (x / 0x100_0000) refl (sym (d
   where
     digits : (a b c : ℕ) → a ≡ x / 0x100 → b ≡ a / 0x100 → c ≡ b / 0x100 → wordOf (x % 0x100) (a % 0x100) (b % 0x100) (c % 0x100) ≡ x
     digits a b c e f g = omega arith
+
+half-again : (x b c : ℕ) → x < 2 ^ 16 → wordOf (x % 0x100) (x / 0x100 % 0x100) b c % 0x1_0000 ≡ x
+half-again x b c h = omega arith
 
 long-again : (x : ℕ) → x < 2 ^ 64 → wordOf (x % 0x1_0000_0000 % 0x100) (x % 0x1_0000_0000 / 0x100 % 0x100) (x % 0x1_0000_0000 / 0x1_0000 % 0x100) (x % 0x1_0000_0000 / 0x100_0000 % 0x100) + 0x1_0000_0000 * wordOf (x / 0x1_0000_0000 % 0x100) (x / 0x1_0000_0000 / 0x100 % 0x100) (x / 0x1_0000_0000 / 0x1_0000 % 0x100) (x / 0x1_0000_0000 / 0x100_0000 % 0x100) ≡ x
 long-again x h = join (word-again (x % 0x1_0000_0000) low) (word-again (x / 0x1_0000_0000) high)
@@ -49,12 +53,28 @@ word-apart {a} {b} {c} {d} ha hb hc hd e =
     let b₃ : d % 0x100 ≡ d = omega arith in
     cc
 
+-- the same of a word's low half
+half-apart : {a b : ℕ} (c d : ℕ) {l m : List ℕ} → a < 256 → b < 256 → l ≡ m → wordOf a b c d % 0x1_0000 % 0x100 ∷ wordOf a b c d % 0x1_0000 / 0x100 % 0x100 ∷ l ≡ a ∷ b ∷ m
+half-apart {a} {b} c d ha hb e =
+    let low : wordOf a b c d % 0x1_0000 ≡ a + 0x100 * b = omega arith in
+    let b₀ : (a + 0x100 * b) % 0x100 ≡ a = omega arith in
+    let b₁ : (a + 0x100 * b) / 0x100 ≡ b = omega arith in
+    let b₂ : b % 0x100 ≡ b = omega arith in
+    cc
+
 -- the same of eight bytes
 long-apart : (x y : ℕ) {l m : List ℕ} → x < 2 ^ 32 → wordBytes x (wordBytes y l) ≡ m → wordBytes ((x + 0x1_0000_0000 * y) % 0x1_0000_0000) (wordBytes ((x + 0x1_0000_0000 * y) / 0x1_0000_0000) l) ≡ m
 long-apart x y h e =
     let low : (x + 0x1_0000_0000 * y) % 0x1_0000_0000 ≡ x = omega arith in
     let high : (x + 0x1_0000_0000 * y) / 0x1_0000_0000 ≡ y = omega arith in
     simp (low, high) e
+
+-- another low half leaves the high half 0
+high-zero : (a b c d x : ℕ) → ltb (wordOf a b c d) 0x1_0000 ≡ true → ltb (wordOf (x % 0x100) (x / 0x100 % 0x100) c d) 0x1_0000 ≡ true
+high-zero a b c d x e = lt-ltb _ _ (low (ltb-true (wordOf a b c d) 0x1_0000 e))
+  where
+    low : wordOf a b c d < 0x1_0000 → wordOf (x % 0x100) (x / 0x100 % 0x100) c d < 0x1_0000
+    low l = omega arith
 
 truth-again : (on : Bool) → eqb (truthByte on) 1 ≡ on
 unfolding truthByte
@@ -92,19 +112,19 @@ module _ (f : ℕ → ℕ) (r : Record) where
   bytes48 = elements f 48
 
   length-stored : length (recordBytes bytes48 r) ≡ 48
-  unfolding recordBytes controlsBytes setWord setLong
+  unfolding recordBytes controlsBytes setHalf setWord setLong
   length-stored = refl
 
   read-elements : RecordFits r → recordOf (recordBytes bytes48 r) ≡ r
-  unfolding recordOf recordBytes controlsOf controlsBytes setWord setLong wordAt longAt wordWithin longWithin
-  read-elements h = simp (truth-again (r .guest), truth-again (r .recognised), word-again (r .controls .flags) (h .controls .flags), word-again (r .controls .threshold) (h .controls .threshold), long-again (r .controls .«eoi_exit_0») (h .controls .eoi₀), long-again (r .controls .«eoi_exit_1») (h .controls .eoi₁), long-again (r .controls .«eoi_exit_2») (h .controls .eoi₂), long-again (r .controls .«eoi_exit_3») (h .controls .eoi₃))
+  unfolding recordOf recordBytes controlsOf controlsBytes setHalf setWord setLong wordAt longAt wordWithin longWithin
+  read-elements h = simp (truth-again (r .guest), truth-again (r .recognised), word-again (r .controls .flags) (h .controls .flags), word-again (r .controls .threshold) (h .controls .threshold), half-again (r .controls .notification) (f 14) (f 15) (h .controls .notification), long-again (r .controls .«eoi_exit_0») (h .controls .eoi₀), long-again (r .controls .«eoi_exit_1») (h .controls .eoi₁), long-again (r .controls .«eoi_exit_2») (h .controls .eoi₂), long-again (r .controls .«eoi_exit_3») (h .controls .eoi₃))
 
   readable-elements : reservedZero bytes48 ≡ true → recordReadable (recordBytes bytes48 r) ≡ true
-  unfolding recordBytes controlsBytes setWord setLong wordAt wordWithin
-  readable-elements z = simp (truth-small (r .guest), truth-small (r .recognised)) z
+  unfolding recordBytes controlsBytes setHalf setWord setLong wordAt wordWithin
+  readable-elements z = simp (truth-small (r .guest), truth-small (r .recognised)) (high-zero (f 12) (f 13) (f 14) (f 15) (r .controls .notification) z)
 
   over-elements : (s : Record) → recordBytes (recordBytes bytes48 r) s ≡ recordBytes bytes48 s
-  unfolding recordBytes controlsBytes setWord setLong
+  unfolding recordBytes controlsBytes setHalf setWord setLong
   over-elements s = refl
 
   -- a word and a long of the bytes
@@ -116,11 +136,11 @@ module _ (f : ℕ → ℕ) (r : Record) where
 
   -- controls that the bytes hold are stored over themselves
   status-elements : ((i : ℕ) → f i < 256) → r .controls ≡ controlsOf bytes48 → recordBytes bytes48 r ≡ statusBytes bytes48 r
-  unfolding recordBytes controlsBytes controlsOf setWord setLong wordAt longAt wordWithin longWithin
+  unfolding recordBytes controlsBytes controlsOf setHalf setWord setLong wordAt longAt wordWithin longWithin
   status-elements h e =
       rw e
       (ap (λ l. truthByte (r .guest) ∷ r .rvi ∷ r .svi ∷ truthByte (r .recognised) ∷ l)
-      (word 4 (word 8 (ap (λ l. f 12 ∷ f 13 ∷ f 14 ∷ f 15 ∷ l) (long 16 (long 24 (long 32 (long 40 refl))))))))
+      (word 4 (word 8 (half-apart (f 14) (f 15) (h 12) (h 13) (ap (λ l. f 14 ∷ f 15 ∷ l) (long 16 (long 24 (long 32 (long 40 refl)))))))))
     where
       word : (k : ℕ) {l m : List ℕ} → l ≡ m → wordBytes (word-at k) l ≡ f k ∷ f (k + 1) ∷ f (k + 2) ∷ f (k + 3) ∷ m
       word k q = word-apart (h k) (h (k + 1)) (h (k + 2)) (h (k + 3)) q

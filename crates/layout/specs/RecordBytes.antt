@@ -1,5 +1,5 @@
 -- The processor record as bytes: exactly 48, little-endian. A number that the bytes do not have whole is 0.
-use Prim.Native.Nat.{ℕ}
+use Prim.Native.Nat.{ℕ, _%_}
 use mathlib.Core.Bool.{Bool, _&&_}
 use mathlib.Core.List.{List}
 use lib.Dec.{eqb, ltb}
@@ -8,30 +8,33 @@ use Rattle.processor.specs.Logic.{if_then_else_}
 use Rattle.processor.specs.declared.controls.Controls.{Controls}
 use Rattle.processor.specs.declared.controls.Record.{Record}
 use Rattle.page.specs.Page.{byteAt, wordWithin, longWithin}
-use Rattle.stores.specs.Stores.{setByte, setWord, setLong}
+use Rattle.stores.specs.Stores.{setByte, setHalf, setWord, setLong}
 
--- threshold u32 at 4, flags u32 at 8, EOI-exit words u64 at 16, 24, 32, 40; an entry's event has them at the same places
+-- threshold u32 at 4, flags u32 at 8, notification vector u16 at 12, the low half of the word there, EOI-exit words u64 at 16, 24, 32,
+-- 40; an entry's event has them at the same places
 unfoldable pub controlsOf : List ℕ → Controls
 controlsOf b =
     record {
       flags = wordWithin b 8;
       threshold = wordWithin b 4;
+      notification = wordWithin b 12 % 0x1_0000;
       «eoi_exit_0» = longWithin b 16;
       «eoi_exit_1» = longWithin b 24;
       «eoi_exit_2» = longWithin b 32;
       «eoi_exit_3» = longWithin b 40;
     }
 
--- bytes 12 to 15 are kept for what comes, and must be 0
+-- bytes 14 and 15, the high half of the word at 12, are kept for what comes, and must be 0
 abbrev pub reservedZero : List ℕ → Bool
-reservedZero b = eqb (wordWithin b 12) 0
+reservedZero b = ltb (wordWithin b 12) 0x1_0000
 
 -- the bytes with the controls stored at the same places
 unfoldable pub controlsBytes : List ℕ → Controls → List ℕ
 controlsBytes b c =
-    setLong (setLong (setLong (setLong (setWord (setWord b
+    setLong (setLong (setLong (setLong (setHalf (setWord (setWord b
     4 (c .threshold))
     8 (c .flags))
+    12 (c .notification))
     16 (c .«eoi_exit_0»))
     24 (c .«eoi_exit_1»))
     32 (c .«eoi_exit_2»))

@@ -4,6 +4,7 @@ ghost use Rattle.layout.specs.RecordBytes.{controlsOf, reservedZero, con
 use page::bytes::long_within;
 use page::bytes::word_within;
 use processor::controls::Controls;
+use stores::bytes::set_half;
 use stores::bytes::set_long;
 use stores::bytes::set_word;
 
@@ -11,7 +12,7 @@ const THRESHOLD: u16 = 4;
 
 const FLAGS: u16 = 8;
 
-const RESERVED: u16 = 12;
+const NOTIFICATION: u16 = 12;
 
 const EOI_EXIT_0: u16 = 16;
 
@@ -27,6 +28,7 @@ pub fn controls_of(bytes: &[u8]) -> Controls
     Controls {
         flags: word_within(bytes, FLAGS),
         threshold: word_within(bytes, THRESHOLD),
+        notification: (word_within(bytes, NOTIFICATION) % 0x1_0000) as u16,
         eoi_exit_0: long_within(bytes, EOI_EXIT_0),
         eoi_exit_1: long_within(bytes, EOI_EXIT_1),
         eoi_exit_2: long_within(bytes, EOI_EXIT_2),
@@ -34,11 +36,11 @@ pub fn controls_of(bytes: &[u8]) -> Controls
     }
 }
 
-// The bytes that are kept for what comes are 0.
+// The bytes that are kept for what comes, above the notification vector, are 0.
 pub fn reserved_zero(bytes: &[u8]) -> bool
     ensures { λ r. ⌜ r ≡ reservedZero (now (bytes .entry)) ⌝ }
 {
-    word_within(bytes, RESERVED) == 0
+    word_within(bytes, NOTIFICATION) < 0x1_0000
 }
 
 pub fn controls_bytes(bytes: &mut [u8], controls: Controls)
@@ -46,6 +48,7 @@ pub fn controls_bytes(bytes: &mut [u8], controls: Controls)
 {
     set_word(bytes, THRESHOLD, controls.threshold);
     set_word(bytes, FLAGS, controls.flags);
+    set_half(bytes, NOTIFICATION, controls.notification);
     set_long(bytes, EOI_EXIT_0, controls.eoi_exit_0);
     set_long(bytes, EOI_EXIT_1, controls.eoi_exit_1);
     set_long(bytes, EOI_EXIT_2, controls.eoi_exit_2);

@@ -10,7 +10,7 @@ use lib.Dec.{eqb, leb, ltb, lit<}
 use lib.ListN.{length}
 use borrow.Author.Tests.{eqb-true, ltb-true, leb-true, ne-eqb}
 use Rattle.processor.specs.Logic.{if_then_else_}
-use Rattle.processor.specs.Controls.{virtualizeX2apicMode, virtualDelivery, virtualizeApicAccesses, useTprShadow, interruptWindowExiting, flagsInBounds, withGuest, withRecognised, withControls}
+use Rattle.processor.specs.Controls.{virtualizeX2apicMode, virtualDelivery, virtualizeApicAccesses, useTprShadow, externalInterruptExiting, interruptWindowExiting, flagsInBounds, withGuest, withRecognised, withControls}
 use Rattle.processor.specs.Offsets.{vtpr, veoi, vicrLo, vicrHi}
 use Rattle.processor.specs.declared.access.Access.{Access}
 use Rattle.processor.specs.declared.access.Access.the-variants.{Passthrough, Exit, Redirected}
@@ -31,13 +31,15 @@ use Rattle.instructions.specs.Instructions.{toCr8, fromCr8, toCr8Qualification,
 use Rattle.instructions.specs.declared.msr.MsrWrite.the-variants.{Passthrough as MsrPassthrough, Fault, Tpr as MsrTpr, Eoi as MsrEoi, SelfIpi as MsrSelfIpi, ApicWrite as MsrApicWrite}
 use Rattle.page.specs.Page.{byteAt, wordAt, longAt, readAt}
 use Rattle.stores.specs.Stores.{storeAt}
-use Rattle.meaning.specs.Input.{Input, given, leaves}
+use Rattle.descriptor.specs.Descriptor.{postedVectors}
+use Rattle.meaning.specs.Input.{Input, given, external, leaves}
 use Rattle.meaning.specs.After.{After, redirected, passthrough, fault, exit, quiet}
 use Rattle.meaning.specs.Procedures.{pprVirtualization, evaluatedQuiet, tprVirtualization, eoiVirtualization, selfIpiVirtualization}
 use Rattle.meaning.specs.Entry.{entry, entered, request}
 use Rattle.meaning.specs.Memory.{readBy, memoryRead, followBy, written, writeBy, memoryWrite}
 use Rattle.meaning.specs.Cr8Msr.{toCr8By, movToCr8, fromCr8By, movFromCr8, readMsr, writeMsrBy, writeMsr}
 use Rattle.meaning.specs.Boundary.{delivery, boundaryAt, boundary}
+use Rattle.meaning.specs.External.{notifies, posting, externalInterrupt}
 use Rattle.meaning.specs.Leave.{left as leftOf}
 use Rattle.meaning.specs.Refusals.{refusalOf}
 use Rattle.meaning.specs.Step.{eventOut, carriedOut}
@@ -75,6 +77,8 @@ pub data Ends (p : List ℕ) (r : Record) (i : Input) : After → Type 0 where
   -- self-IPI virtualization, request
   sending : {q : List ℕ} (v : ℕ) → moveOf i quietNumbers ≡ raises (v ∷ []) → v < 256 → r .guest ≡ true → Stored p q → Ends p r i (selfIpiVirtualization q r v)
   requesting : (v : ℕ) → moveOf i quietNumbers ≡ raises (v ∷ []) → v < 256 → r .guest ≡ false → Ends p r i (request p r v)
+  -- posting
+  posts : (d : List ℕ) → moveOf i quietNumbers ≡ raises (postedVectors d) → r .guest ≡ true → Ends p r i (posting p r d)
   -- delivery
   delivering : moveOf i (numbers 5 (r .rvi) 0) ≡ delivers (r .rvi) → r .guest ≡ true → r .recognised ≡ true → Ends p r i (delivery p r)
   -- the guest leaves
@@ -246,6 +250,15 @@ module _ (p : List ℕ) (r : Record) where
       by false true q = delivering refl t (right (openBoundary interrupts sti movSs activity) (r .recognised) q)
       by false false q = stores refl none
 
+  ends-external : (d : List ℕ) (vector : ℕ) → r .guest ≡ true → Ends p r (external d vector) (externalInterrupt p r d vector)
+  unfolding externalInterrupt moveOf
+  ends-external d vector t = by (not (externalInterruptExiting (r .controls))) (not (notifies (r .controls) vector))
+    where
+      by : (x y : Bool) → Ends p r (external d vector) (if x then passthrough p r else (if y then exit 1 0 p r else posting p r d))
+      by true y = passes
+      by false true = plain-exit p r (external d vector) 1 0 refl none
+      by false false = posts d refl t
+
   in-guest : (e : Event) → rootOnly e ≡ false → allowed r e ≡ true → r .guest ≡ true
   unfolding allowed
   in-guest e n a = simp n at a
@@ -266,6 +279,7 @@ module _ (p : List ℕ) (r : Record) where
   ends-passed : (i : Input) → Passed p r i → Ends p r i (carriedOut p r i)
   unfolding carriedOut
   ends-passed (given e) t = ends-event e (eqb-true (length p) 4096 (t .page)) (right (flagsInBounds (r .controls)) (eventInBounds e) (t .fields)) (t .mode)
+  ends-passed (external d vector) t = ends-external d vector (t .mode)
   ends-passed leaves t = leaving refl
 
   pub ends : (i : Input) → refusalOf p r i ≡ None → Ends p r i (carriedOut p r i)

@@ -22,17 +22,20 @@ use Rattle.page.specs.Page.{byteAt, IsPage}
 use Rattle.stores.specs.Stores.{setWord}
 use Rattle.registers.specs.Vectors.{isSet, setVector, highest, put}
 use Rattle.registers.proofs.Registers.{highest-ext, highest-fewer, highest-byte}
-use Rattle.meaning.specs.Input.{Input, given, leaves}
+use Rattle.descriptor.specs.Descriptor.{highestPosted, postedVectors, raisedBy, joined}
+use Rattle.meaning.specs.Input.{Input, given, external, leaves}
 use Rattle.meaning.specs.After.{After, exit, quiet}
 use Rattle.meaning.specs.Procedures.{pprVirtualization, evaluation, evaluatedQuiet, retiredPage, retiredRecord, eoiEnd, eoiVirtualization, requestedPage, requestedRecord, selfIpiVirtualization}
 use Rattle.meaning.specs.Entry.{request}
 use Rattle.meaning.specs.Boundary.{deliveredPage, deliveredRecord, delivery}
+use Rattle.meaning.specs.External.{postedRecord, posting}
 use Rattle.meaning.specs.Leave.{left}
 use Rattle.meaning.specs.Moves.{Move, stays, raises, delivers, retires, isQuiet, isDelivered, isQuietOr45, raisesIf, retiresIf, deliversIf, eventMove, moveOf, Moved}
 use Rattle.meaning.specs.Settled.{ByteRecord, Settled}
 use Rattle.meaning.specs.History.{deliveryOn}
 use Rattle.meaning.proofs.Kept.{Same, Kept, same-refl, kept, same-vppr, vppr-stored}
-use Rattle.meaning.proofs.Endings.{Ends, reads, passes, faults, exits, stores, evaluates, enters, retiring, sending, requesting, delivering, leaving}
+use Rattle.meaning.proofs.Endings.{Ends, reads, passes, faults, exits, stores, evaluates, enters, retiring, sending, requesting, posts, delivering, leaving}
+use Rattle.meaning.proofs.Posting.{posted-bytes, largest-posted, page-joined, joined-requests, joined-services, joined-vppr}
 use Rattle.meaning.proofs.Put.{page-put, bits-put, visr-keeps-requests, virr-keeps-services, put-keeps-vppr}
 
 -- what an input left: a page, the move that its answer names, and a settled record where it was settled
@@ -67,6 +70,7 @@ stays-event (Boundary interrupts sti movSs activity) n a d = ap (λ q. deliversI
 stays-other : (i : Input) (n : Numbers) → isQuietOr45 n ≡ false → isDelivered n ≡ false → moveOf i n ≡ stays
 unfolding moveOf
 stays-other (given e) n a d = stays-event e n a d
+stays-other (external l vector) n a d = ap (λ q. raisesIf q (postedVectors l)) (none-left (isQuiet n) _ a)
 stays-other leaves n a d = refl
 
 -- evaluation in guest mode settles
@@ -290,6 +294,23 @@ module _ (p : List ℕ) (r : Record) (i : Input) (g : IsPage p) (b : ByteRecord 
     };
   }
 
+  -- a posting
+  good-posting : (d : List ℕ) → moveOf i (numbers 6 0 0) ≡ raises (postedVectors d) → r .guest ≡ true → Good p r i (posting p r d)
+  unfolding posting postedRecord evaluatedQuiet evaluation
+  good-posting d m t = record {
+    isPage = page-joined p d g;
+    moved = rw m (record {
+      vector = posted-bytes d;
+      request = joined-requests p d g;
+      service = joined-services p d g;
+      rvi = sym (largest-posted d (r .rvi));
+      svi = refl;
+    });
+    named = λ x. absurd (false≢true x);
+    settled = λ x s o. settled-evaluated (joined p d) (withRvi r (raisedBy (r .rvi) (highestPosted d))) t (s .on t)
+        (subst (λ y. class (r .svi) ≤ class y) (sym (joined-vppr p d g)) (s .priority t));
+  }
+
   -- the guest leaves
   good-left : i ≡ leaves → Good p r i (left p r)
   unfolding left moveOf
@@ -340,5 +361,6 @@ module _ (p : List ℕ) (r : Record) (i : Input) (g : IsPage p) (b : ByteRecord 
   good (retiring m t k) = good-eoi _ m t (kept g k)
   good (sending v m h t k) = good-self-ipi _ v m h t (kept g k)
   good (requesting v m h t) = good-request v m h t
+  good (posts d m t) = good-posting d m t
   good (delivering m t y) = good-delivery m t y
   good (leaving e) = good-left e

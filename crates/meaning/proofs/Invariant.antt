@@ -13,7 +13,7 @@ use Rattle.rules.specs.Priorities.{class}
 use Rattle.processor.proofs.Tests.{below, left, right}
 use Rattle.processor.specs.Offsets.{vppr, visr, virr}
 use Rattle.page.specs.Page.{byteAt, IsPage}
-use Rattle.registers.specs.Vectors.{isSet, highestBelow, highest, put}
+use Rattle.registers.specs.Vectors.{isSet, highestOf, highest, put}
 use Rattle.registers.proofs.Top.{highest-top}
 use Rattle.registers.proofs.Registers.{highest-ext, highest-byte}
 use Rattle.meaning.specs.Input.{Input}
@@ -131,7 +131,7 @@ unfolding isSet
 no-service = tt
 
 pub start-inv : Inv [] start
-unfolding highest highestBelow isSet
+unfolding highest highestOf isSet
 start-inv = record {
   isPage = record { size = length-replicate {A = ℕ} 4096 0; bytes = λ i. rw (zero-byte 4096 i) (lit< tt) };
   rvi = refl;

@@ -6,15 +6,15 @@ use mathlib.Core.Bool.{Bool, true, false, not, _||_, true≢false}
 use mathlib.Core.Logic.{_⊎_, inl, inr, ⊎-elim}
 use mathlib.Core.List.{List}
 use lib.Dec.{eqb, leb, ltb, lit<, lit≤}
-use lib.ListN.{length, set, length-set}
-use lib.Seq.{getD-set-same, getD-set-other, set-out}
-use borrow.Author.Tests.{eqb-true, eqb-false, ltb-true, ltb-false, leb-true}
+use lib.ListN.{length, length-set}
+use lib.Seq.{getD-set-other}
+use borrow.Author.Tests.{ltb-true, leb-true}
 use Rattle.processor.proofs.Tests.{left, right}
 use Rattle.processor.specs.Offsets.{vppr, visr, virr}
 use Rattle.page.specs.Page.{byteAt, IsPage}
 use Rattle.stores.specs.Stores.{setByte, setWord}
 use Rattle.registers.specs.Vectors.{vectorByte, isSet}
-use Rattle.registers.proofs.Registers.{isSet-other, vector-within}
+use Rattle.registers.proofs.Registers.{set-byte, isSet-other, vector-within}
 use Rattle.meaning.proofs.Stored.{apart, free, Stored, none, byte, word-stored}
 
 -- q is a page with the request and service bits of p
@@ -35,17 +35,6 @@ kept-refl : (p : List ℕ) → IsPage p → Kept p p
 kept-refl p g = record { same = same-refl p g; vppr = refl }
 
 -- a byte stored keeps a page a page
-set-byte : (p : List ℕ) (i x : ℕ) → ((j : ℕ) → byteAt p j < 256) → x < 256 → (j : ℕ) → byteAt (set p i x) j < 256
-set-byte p i x h hx j = by (eqb j i) refl
-  where
-    at : (b : Bool) → ltb i (length p) ≡ b → byteAt (set p i x) i < 256
-    at true e = rw (getD-set-same p i x 0 (ltb-true i (length p) e)) hx
-    at false e = rw (set-out p i x (ltb-false i (length p) e)) (h i)
-
-    by : (b : Bool) → eqb j i ≡ b → byteAt (set p i x) j < 256
-    by true e = rw (eqb-true j i e) (at (ltb i (length p)) refl)
-    by false e = rw (getD-set-other p i j x 0 (eqb-false j i e)) (h j)
-
 pub page-set : (p : List ℕ) (i x : ℕ) → IsPage p → x < 256 → IsPage (setByte p i x)
 page-set p i x g hx = record { size = length-set p i x ∙ g .size; bytes = set-byte p i x (g .bytes) hx }
 

@@ -20,6 +20,7 @@ use Rattle.meaning.specs.After.{After}
 use Rattle.meaning.specs.Procedures.{evaluation, evaluatedQuiet, retiredRecord, eoiEnd, eoiVirtualization, requestedRecord, selfIpiVirtualization}
 use Rattle.meaning.specs.Entry.{request}
 use Rattle.meaning.specs.Boundary.{deliveredRecord, delivery}
+use Rattle.meaning.specs.External.{postedRecord, posting}
 use Rattle.meaning.specs.Leave.{left}
 use Rattle.meaning.specs.Refusals.{refusalOf}
 use Rattle.meaning.specs.Step.{stepBy, step}
@@ -27,7 +28,7 @@ use Rattle.meaning.specs.Moves.{Move, stays, raises, delivers, retires, 
 use Rattle.meaning.specs.Settled.{ByteRecord, Settled}
 use Rattle.meaning.specs.Widths.{ControlsFit, RecordFits, InputFits}
 use Rattle.meaning.specs.History.{deliveryOn}
-use Rattle.meaning.proofs.Endings.{Ends, reads, passes, faults, exits, stores, evaluates, enters, retiring, sending, requesting, delivering, leaving, ends}
+use Rattle.meaning.proofs.Endings.{Ends, reads, passes, faults, exits, stores, evaluates, enters, retiring, sending, requesting, posts, delivering, leaving, ends}
 use Rattle.meaning.proofs.Raised.{largest-byte}
 use Rattle.meaning.proofs.Good.{Good, good-same, good}
 
@@ -72,7 +73,7 @@ module _ (p : List ℕ) (r : Record) (i : Input) where
       by false e = simp e
 
   taken : {a : After} → Ends p r i a → (a .state .controls ≡ r .controls) ⊎ (i ≡ given (Entry (a .state .controls)))
-  unfolding evaluatedQuiet evaluation selfIpiVirtualization requestedRecord request delivery deliveredRecord left
+  unfolding evaluatedQuiet evaluation selfIpiVirtualization requestedRecord request posting postedRecord delivery deliveredRecord left
   taken (reads value) = inl refl
   taken passes = inl refl
   taken faults = inl refl
@@ -83,6 +84,7 @@ module _ (p : List ℕ) (r : Record) (i : Input) where
   taken (retiring m t k) = inl (eoi-controls _)
   taken (sending v m h t k) = inl refl
   taken (requesting v m h t) = inl refl
+  taken (posts d m t) = inl refl
   taken (delivering m t y) = inl refl
   taken (leaving e) = inl refl
 

@@ -5,6 +5,8 @@ pub mod Stored
 pub mod Kept
 pub mod Put
 pub mod Raised
+pub mod Posting
+pub mod AnyOrder
 pub mod Endings
 pub mod Condition1
 pub mod Good

@@ -9,7 +9,7 @@ use Rattle.registers.specs.Vectors.{isSet, put, highest}
 use Rattle.registers.proofs.Top.{top, top-ext, top-raise, highest-top}
 use Rattle.meaning.specs.Moves.{largest, Bytes}
 
-top-raises : (f : ℕ → Bool) (vs : List ℕ) → Bytes vs → top (λ w. member w vs || f w) 256 ≡ largest (top f 256) vs
+pub top-raises : (f : ℕ → Bool) (vs : List ℕ) → Bytes vs → top (λ w. member w vs || f w) 256 ≡ largest (top f 256) vs
 top-raises f [] b = refl
 top-raises f (v ∷ vs) b =
     top-ext (λ w. member w (v ∷ vs) || f w) (λ w. member w vs || put f v true w) 256 (λ w l. one-first (eqb v w) (member w vs) (f w))

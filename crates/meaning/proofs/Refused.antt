@@ -9,11 +9,12 @@ use lib.Dec.{eqb}
 use Rattle.processor.specs.declared.controls.Record.{Record}
 use Rattle.events.specs.declared.answer.Refusal.the-variants.{None, By}
 use Rattle.meaning.specs.Input.{Input}
-use Rattle.meaning.specs.Refusals.{pageFits, fieldsFit, modeFits, checkOf, refusalOf}
+use Rattle.meaning.specs.Refusals.{pageFits, lentFits, fieldsFit, modeFits, checkOf, refusalOf}
 
 -- an input that gets no refusal has passed every test
 pub record Passed (p : List ℕ) (r : Record) (i : Input) : Type 0 where
   pub page : pageFits p i ≡ true
+  pub lent : lentFits i ≡ true
   pub fields : fieldsFit r i ≡ true
   pub mode : modeFits r i ≡ true
   pub check : eqb (checkOf p i) 0 ≡ true
@@ -26,28 +27,33 @@ module _ (p : List ℕ) (r : Record) (i : Input) where
   unfolding refusalOf
   refusal-1 l = simp l
 
-  pub refusal-2 : pageFits p i ≡ true → fieldsFit r i ≡ false → refusalOf p r i ≡ By 2 0
+  pub refusal-5 : pageFits p i ≡ true → lentFits i ≡ false → refusalOf p r i ≡ By 5 0
   unfolding refusalOf
-  refusal-2 l f = simp (l, f)
+  refusal-5 l d = simp (l, d)
 
-  pub refusal-3 : pageFits p i ≡ true → fieldsFit r i ≡ true → modeFits r i ≡ false → refusalOf p r i ≡ By 3 0
+  pub refusal-2 : pageFits p i ≡ true → lentFits i ≡ true → fieldsFit r i ≡ false → refusalOf p r i ≡ By 2 0
   unfolding refusalOf
-  refusal-3 l f m = simp (l, f, m)
+  refusal-2 l d f = simp (l, d, f)
 
-  pub refusal-4 : pageFits p i ≡ true → fieldsFit r i ≡ true → modeFits r i ≡ true → eqb (checkOf p i) 0 ≡ false → refusalOf p r i ≡ By 4 (checkOf p i)
+  pub refusal-3 : pageFits p i ≡ true → lentFits i ≡ true → fieldsFit r i ≡ true → modeFits r i ≡ false → refusalOf p r i ≡ By 3 0
   unfolding refusalOf
-  refusal-4 l f m n = simp (l, f, m, n)
+  refusal-3 l d f m = simp (l, d, f, m)
 
-  pub no-refusal : pageFits p i ≡ true → fieldsFit r i ≡ true → modeFits r i ≡ true → eqb (checkOf p i) 0 ≡ true → refusalOf p r i ≡ None
+  pub refusal-4 : pageFits p i ≡ true → lentFits i ≡ true → fieldsFit r i ≡ true → modeFits r i ≡ true → eqb (checkOf p i) 0 ≡ false → refusalOf p r i ≡ By 4 (checkOf p i)
   unfolding refusalOf
-  no-refusal l f m n = simp (l, f, m, n)
+  refusal-4 l d f m n = simp (l, d, f, m, n)
+
+  pub no-refusal : pageFits p i ≡ true → lentFits i ≡ true → fieldsFit r i ≡ true → modeFits r i ≡ true → eqb (checkOf p i) 0 ≡ true → refusalOf p r i ≡ None
+  unfolding refusalOf
+  no-refusal l d f m n = simp (l, d, f, m, n)
 
   pub passed : refusalOf p r i ≡ None → Passed p r i
-  passed e = by (pageFits p i) (fieldsFit r i) (modeFits r i) (eqb (checkOf p i) 0) refl refl refl refl
+  passed e = by (pageFits p i) (lentFits i) (fieldsFit r i) (modeFits r i) (eqb (checkOf p i) 0) refl refl refl refl refl
     where
-      by : (x y z w : Bool) → pageFits p i ≡ x → fieldsFit r i ≡ y → modeFits r i ≡ z → eqb (checkOf p i) 0 ≡ w → Passed p r i
-      by false y z w l f m n = absurd (not-none 1 0 (sym (refusal-1 l) ∙ e))
-      by true false z w l f m n = absurd (not-none 2 0 (sym (refusal-2 l f) ∙ e))
-      by true true false w l f m n = absurd (not-none 3 0 (sym (refusal-3 l f m) ∙ e))
-      by true true true false l f m n = absurd (not-none 4 (checkOf p i) (sym (refusal-4 l f m n) ∙ e))
-      by true true true true l f m n = record { page = l; fields = f; mode = m; check = n }
+      by : (x v y z w : Bool) → pageFits p i ≡ x → lentFits i ≡ v → fieldsFit r i ≡ y → modeFits r i ≡ z → eqb (checkOf p i) 0 ≡ w → Passed p r i
+      by false v y z w l d f m n = absurd (not-none 1 0 (sym (refusal-1 l) ∙ e))
+      by true false y z w l d f m n = absurd (not-none 5 0 (sym (refusal-5 l d) ∙ e))
+      by true true false z w l d f m n = absurd (not-none 2 0 (sym (refusal-2 l d f) ∙ e))
+      by true true true false w l d f m n = absurd (not-none 3 0 (sym (refusal-3 l d f m) ∙ e))
+      by true true true true false l d f m n = absurd (not-none 4 (checkOf p i) (sym (refusal-4 l d f m n) ∙ e))
+      by true true true true true l d f m n = record { page = l; lent = d; fields = f; mode = m; check = n }

@@ -16,7 +16,7 @@ use Rattle.events.specs.declared.answer.Refusal.{Refusal}
 use Rattle.events.specs.declared.answer.Refusal.the-variants.{None, By}
 use Rattle.events.specs.declared.event.Event.the-variants.{Entry}
 use Rattle.page.specs.Page.{byteAt}
-use Rattle.rules.specs.EntryChecks.{check1, check2, check3, check4, thresholdTooHigh, check6, failingCheck}
+use Rattle.rules.specs.EntryChecks.{check1, check2, check3, check4, check5, thresholdTooHigh, check6, failingCheck}
 use Rattle.meaning.specs.Input.{Input, given}
 use Rattle.meaning.specs.After.{exit, refused}
 use Rattle.meaning.specs.Entry.{entry}
@@ -27,32 +27,33 @@ use Rattle.meaning.proofs.Refused.{passed}
 -- where check 6 fails, a check fails
 some-check : (c : Controls) (v : ℕ) → check6 c v ≡ true → eqb (failingCheck c v) 0 ≡ false
 unfolding failingCheck
-some-check c v e = by (check1 c) (check2 c) (check3 c) (check4 c)
+some-check c v e = by (check1 c) (check2 c) (check3 c) (check4 c) (check5 c)
   where
-    by : (w x y z : Bool) → eqb (if w then 1 else (if x then 2 else (if y then 3 else (if z then 4 else (if check6 c v then 6 else 0))))) 0 ≡ false
-    by true x y z = refl
-    by false true y z = refl
-    by false false true z = refl
-    by false false false true = refl
-    by false false false false = simp e
+    by : (u w x y z : Bool) → eqb (if u then 1 else (if w then 2 else (if x then 3 else (if y then 4 else (if z then 5 else (if check6 c v then 6 else 0)))))) 0 ≡ false
+    by true w x y z = refl
+    by false true x y z = refl
+    by false false true y z = refl
+    by false false false true z = refl
+    by false false false false true = refl
+    by false false false false false = simp e
 
--- where checks 1 to 4 pass, check 6 is what is left
-last-check : (c : Controls) (v : ℕ) → check1 c ≡ false → check2 c ≡ false → check3 c ≡ false → check4 c ≡ false → failingCheck c v ≡ (if check6 c v then 6 else 0)
+-- where checks 1 to 5 pass, check 6 is what is left
+last-check : (c : Controls) (v : ℕ) → check1 c ≡ false → check2 c ≡ false → check3 c ≡ false → check4 c ≡ false → check5 c ≡ false → failingCheck c v ≡ (if check6 c v then 6 else 0)
 unfolding failingCheck
-last-check c v e1 e2 e3 e4 = simp (e1, e2, e3, e4)
+last-check c v e1 e2 e3 e4 e5 = simp (e1, e2, e3, e4, e5)
 
 module _ (p : List ℕ) (r : Record) (c : Controls) (h : thresholdTooHigh c (byteAt p vtpr) ≡ true) where
   abbrev here : Input
   here = given (Entry c)
 
   -- every other test passed: control 1 decides
-  pub too-high : eqb (length p) 4096 ≡ true → inBounds r (Entry c) ≡ true → allowed r (Entry c) ≡ true → check1 c ≡ false → check2 c ≡ false → check3 c ≡ false → check4 c ≡ false → step p r here ≡ (if virtualizeApicAccesses c then exit 43 0 p (withControls r c) else refused 4 6 p r)
+  pub too-high : eqb (length p) 4096 ≡ true → inBounds r (Entry c) ≡ true → allowed r (Entry c) ≡ true → check1 c ≡ false → check2 c ≡ false → check3 c ≡ false → check4 c ≡ false → check5 c ≡ false → step p r here ≡ (if virtualizeApicAccesses c then exit 43 0 p (withControls r c) else refused 4 6 p r)
   unfolding step stepBy carriedOut eventOut entry refusalOf
-  too-high l f m e1 e2 e3 e4 = by (virtualizeApicAccesses c) refl
+  too-high l f m e1 e2 e3 e4 e5 = by (virtualizeApicAccesses c) refl
     where
       by : (x : Bool) → virtualizeApicAccesses c ≡ x → step p r here ≡ (if virtualizeApicAccesses c then exit 43 0 p (withControls r c) else refused 4 6 p r)
-      by true e = simp (l, f, m, last-check c (byteAt p vtpr) e1 e2 e3 e4, h, e)
-      by false e = simp (l, f, m, last-check c (byteAt p vtpr) e1 e2 e3 e4, h, e)
+      by true e = simp (l, f, m, last-check c (byteAt p vtpr) e1 e2 e3 e4 e5, h, e)
+      by false e = simp (l, f, m, last-check c (byteAt p vtpr) e1 e2 e3 e4 e5, h, e)
 
   -- refused or not, the guest stays out
   pub kept-out : r .guest ≡ false → step p r here .state .guest ≡ false

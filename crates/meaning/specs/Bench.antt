@@ -1,5 +1,6 @@
--- Document 01, "Bench cases" K1 to K12, one of the guest that leaves, and both sides of E2 of document 02, as rows of one table: where a
--- row starts, what is done, and what must come of it. Then rows of the search: what it finds on a page.
+-- Document 01, "Bench cases" K1 to K12, one of the guest that leaves, both sides of E2 of document 02, and E1 of it, as rows of one table:
+-- where a row starts, what is done, and what must come of it. Then rows of an external interrupt with its descriptor, and rows of the
+-- search: what it finds on a page.
 use Prim.Native.Nat.{ℕ}
 use mathlib.Core.Bool.{Bool, true, false, _&&_, Bool·beq}
 use mathlib.Core.List.{List, [], _∷_, _++_}
@@ -17,8 +18,9 @@ use Rattle.stores.specs.Stores.{setByte}
 use Rattle.registers.specs.declared.found.Found.{Found}
 use Rattle.registers.specs.declared.found.Found.the-variants.{None, Vector}
 use Rattle.registers.specs.Vectors.{setVector, highestSet}
-use Rattle.meaning.specs.Input.{Input, given, leaves}
+use Rattle.meaning.specs.Input.{Input, given, external, leaves}
 use Rattle.meaning.specs.Procedures.{pprVirtualization}
+use Rattle.meaning.specs.Step.{descriptorAfter}
 use Rattle.meaning.specs.Run.{Held, zeroPage, start, after, answers}
 
 -- a word of the page: its offset and its value
@@ -66,21 +68,21 @@ abbrev pub hasWords : List ℕ → List Word → Bool
 hasWords p [] = true
 hasWords p (w ∷ ws) = eqb (wordAt p (w .at)) (w .value) && hasWords p ws
 
-abbrev pub samePage : List ℕ → List ℕ → Bool
-samePage [] [] = true
-samePage [] (b ∷ q) = false
-samePage (a ∷ p) [] = false
-samePage (a ∷ p) (b ∷ q) = eqb a b && samePage p q
+abbrev pub sameBytes : List ℕ → List ℕ → Bool
+sameBytes [] [] = true
+sameBytes [] (b ∷ q) = false
+sameBytes (a ∷ p) [] = false
+sameBytes (a ∷ p) (b ∷ q) = eqb a b && sameBytes p q
 
 -- a page at the end, of a page at the start
 abbrev pub pageEnds : List ℕ → List ℕ → PageEnd → Bool
 pageEnds before p (words ws) = hasWords p ws
-pageEnds before p asBefore = samePage p before
+pageEnds before p asBefore = sameBytes p before
 
 abbrev pub sameControls : Controls → Controls → Bool
 sameControls a b =
-    eqb (a .flags) (b .flags) && eqb (a .threshold) (b .threshold) && eqb (a .«eoi_exit_0») (b .«eoi_exit_0») &&
-    eqb (a .«eoi_exit_1») (b .«eoi_exit_1») && eqb (a .«eoi_exit_2») (b .«eoi_exit_2») && eqb (a .«eoi_exit_3») (b .«eoi_exit_3»)
+    eqb (a .flags) (b .flags) && eqb (a .threshold) (b .threshold) && eqb (a .notification) (b .notification) &&
+    eqb (a .«eoi_exit_0») (b .«eoi_exit_0») && eqb (a .«eoi_exit_1») (b .«eoi_exit_1») && eqb (a .«eoi_exit_2») (b .«eoi_exit_2») && eqb (a .«eoi_exit_3») (b .«eoi_exit_3»)
 
 abbrev pub sameRecord : Record → Record → Bool
 sameRecord a b =
@@ -103,9 +105,12 @@ rowsHold (row ∷ rows) = rowHolds row && rowsHold rows
 abbrev word : ℕ → ℕ → Word
 word at value = record { at = at; value = value }
 
+abbrev pub notified : ℕ → ℕ → ℕ → Controls
+notified notification flags threshold =
+    record { flags = flags; threshold = threshold; notification = notification; «eoi_exit_0» = 0; «eoi_exit_1» = 0; «eoi_exit_2» = 0; «eoi_exit_3» = 0 }
+
 abbrev pub controls : ℕ → ℕ → Controls
-controls flags threshold =
-    record { flags = flags; threshold = threshold; «eoi_exit_0» = 0; «eoi_exit_1» = 0; «eoi_exit_2» = 0; «eoi_exit_3» = 0 }
+controls flags threshold = notified 0 flags threshold
 
 -- "V" is controls 0, 4, 5 on; "M" adds control 1; "R" adds control 3 to M.
 abbrev pub controlsV : Controls
@@ -253,7 +258,7 @@ abbrev entryPage : List ℕ
 entryPage = setByte (vtprPage 0x4f) vppr 0x70
 
 abbrev controlsBefore : Controls
-controlsBefore = record { flags = 0x120; threshold = 3; «eoi_exit_0» = 0; «eoi_exit_1» = 1; «eoi_exit_2» = 0; «eoi_exit_3» = 0 }
+controlsBefore = record { flags = 0x120; threshold = 3; notification = 0x1f2; «eoi_exit_0» = 0; «eoi_exit_1» = 1; «eoi_exit_2» = 0; «eoi_exit_3» = 0 }
 
 abbrev beforeEntry : Record
 beforeEntry = stateOf false 0x52 0x31 true controlsBefore
@@ -289,9 +294,110 @@ thresholds =
     -- above VTPR's class in x2APIC mode
     checkFails 6 (controls 0x05 5) ∷ []
 
--- K1 to K12, the guest that leaves, and both sides of E2
+-- E1: check 5 at the same entry
+abbrev pub postingChecks : List Row
+postingChecks =
+    -- posting without VID; without acknowledge; with a notification vector above 255
+    checkFails 5 (notified 0xf2 0x621 0) ∷ checkFails 5 (notified 0xf2 0x231 0) ∷ checkFails 5 (notified 0x100 0x631 0) ∷
+    checkFails 5 (notified 0xffff 0x631 0) ∷
+    -- with all three; with posting off, whatever the notification vector
+    enters (notified 0xff 0x631 0) true (words (word 0x0a0 0x4f ∷ [])) ∷ enters (notified 0x100 0x431 0) true (words (word 0x0a0 0x4f ∷ [])) ∷
+    -- after check 4, before check 6
+    checkFails 4 (notified 0xf2 0x621 16) ∷ checkFails 5 (notified 0xf2 0x621 5) ∷ []
+
+-- a descriptor with nothing posted, its byte 32, and marks in the bytes above
+abbrev pub unposted : ℕ → List ℕ
+unposted byte = replicate 32 0 ++ (byte ∷ replicate 31 0xa5)
+
+-- 31H and 71H posted, the outstanding bit set
+abbrev pub twoPosted : List ℕ
+twoPosted = setByte (setByte (unposted 0xff) 6 0x02) 14 0x02
+
+-- M, processing posted interrupts
+abbrev controlsP : Controls
+controlsP = notified 0xf2 0x633 0
+
+-- two vectors posted to a running guest: the higher is delivered first, the other after the EOI
+abbrev pub postedRun : Row
+postedRun =
+    fromFresh (given (Entry controlsP) ∷ external twoPosted 0xf2 ∷ each (boundaryOpen ∷ MemoryWrite 0x0b0 4 false false 0 ∷ boundaryOpen ∷ []))
+    (quiet ∷ quiet ∷ delivered 0x71 ∷ quiet ∷ delivered 0x31 ∷ []) (stateOf true 0 0x31 false controlsP)
+    (word 0x110 0x0002_0000 ∷ word 0x130 0 ∷ word 0x0a0 0x30 ∷ noRequest)
+
+-- K1 to K12, the guest that leaves, both sides of E2, and E1
 abbrev pub benchRows : List Row
-benchRows = (k1 ∷ k2 ∷ k3 ∷ k4 ∷ k5 ∷ []) ++ k6 ++ k7 ++ k8 ++ k9 ++ k10 ++ k11 ++ (k12 ∷ leaving ∷ []) ++ thresholds
+benchRows =
+    (k1 ∷ k2 ∷ k3 ∷ k4 ∷ k5 ∷ []) ++ k6 ++ k7 ++ k8 ++ k9 ++ k10 ++ k11 ++ (k12 ∷ leaving ∷ []) ++ thresholds ++ postingChecks ++
+    (postedRun ∷ [])
+
+-- a row of one external interrupt: page, record, descriptor and vector; then answer, record, page and every byte of the descriptor
+pub record Interrupt : Type 0 where
+  pub begin : Held
+  pub descriptor : List ℕ
+  pub vector : ℕ
+  pub answer : Numbers
+  pub state : Record
+  pub page : PageEnd
+  pub left : List ℕ
+
+abbrev asRow : Interrupt → Row
+asRow x =
+    record { begin = x .begin; deed = inputs (external (x .descriptor) (x .vector) ∷ []); answers = x .answer ∷ []; state = x .state; page = x .page }
+
+abbrev pub interruptsHold : List Interrupt → Bool
+interruptsHold [] = true
+interruptsHold (x ∷ xs) =
+    rowHolds (asRow x) && sameBytes (descriptorAfter (x .begin .page) (x .begin .state) (x .descriptor) (x .vector)) (x .left) &&
+    interruptsHold xs
+
+-- a guest at VPPR 60H, with 60H in service
+abbrev guestPage : List ℕ
+guestPage = setByte (setVector zeroPage visr 0x60) vppr 0x60
+
+abbrev interrupted : Bool → ℕ → Bool → Controls → Record
+interrupted guest rvi recognised c = stateOf guest rvi 0x60 recognised c
+
+abbrev interrupt : Record → List ℕ → ℕ → Numbers → Record → PageEnd → List ℕ → Interrupt
+interrupt r d vector a state page left =
+    record { begin = record { page = guestPage; state = r }; descriptor = d; vector = vector; answer = a; state = state; page = page; left = left }
+
+-- nothing but the answer comes of it
+abbrev untouched : Record → List ℕ → ℕ → Numbers → Interrupt
+untouched r d vector a = interrupt r d vector a r asBefore d
+
+-- exit 1: nothing but mode and recognition changes
+abbrev exits1 : Controls → ℕ → Interrupt
+exits1 c vector = interrupt (interrupted true 0x71 true c) twoPosted vector (exit 1 0) (interrupted false 0x71 false c) asBefore twoPosted
+
+abbrev pub interruptRows : List Interrupt
+interruptRows =
+    -- posting of 31H and 71H
+    interrupt (interrupted true 0 false controlsP) twoPosted 0xf2 quiet (interrupted true 0x71 true controlsP)
+    (words (word 0x210 0x0002_0000 ∷ word 0x230 0x0002_0000 ∷ word 0x0a0 0x60 ∷ word 0x130 1 ∷ [])) (unposted 0xfe) ∷
+    -- RVI is not lowered; with VID off it is the same
+    interrupt (interrupted true 0x95 false controlsP) twoPosted 0xf2 quiet (interrupted true 0x95 true controlsP)
+    (words (word 0x210 0x0002_0000 ∷ word 0x230 0x0002_0000 ∷ [])) (unposted 0xfe) ∷
+    interrupt (interrupted true 0 false (notified 0xf2 0x620 0)) twoPosted 0xf2 quiet (interrupted true 0x71 true (notified 0xf2 0x620 0))
+    (words (word 0x210 0x0002_0000 ∷ word 0x230 0x0002_0000 ∷ [])) (unposted 0xfe) ∷
+    -- nothing posted with the outstanding bit set: RVI is the same, the bit is cleared, evaluation is done
+    interrupt (interrupted true 0x71 false controlsP) (unposted 0xff) 0xf2 quiet (interrupted true 0x71 true controlsP) asBefore (unposted 0xfe) ∷
+    interrupt (interrupted true 0 true controlsP) (unposted 0x01) 0xf2 quiet (interrupted true 0 false controlsP) asBefore (unposted 0x00) ∷
+    -- posted with the outstanding bit clear
+    interrupt (interrupted true 0 false controlsP) (setByte (unposted 0x80) 31 0x80) 0xf2 quiet (interrupted true 0xff true controlsP)
+    (words (word 0x270 0x8000_0000 ∷ [])) (unposted 0x80) ∷
+    -- the wrong vector; one that has the low eight bits of the notification vector alone; posting off
+    exits1 controlsP 0xf3 ∷ exits1 (notified 0x1f2 0x633 0) 0xf2 ∷ exits1 (notified 0xf2 0x433 0) 0xf2 ∷
+    -- external-interrupt exiting off
+    untouched (interrupted true 0 true (notified 0xf2 0x613 0)) twoPosted 0xf2 (numbers 2 0 0) ∷
+    -- 63 and 65 bytes; root mode with a short descriptor, and with a whole one
+    untouched (interrupted true 0 false controlsP) (replicate 63 0xff) 0xf2 (refused 5 0) ∷
+    untouched (interrupted true 0 false controlsP) (replicate 65 0xff) 0xf2 (refused 5 0) ∷
+    untouched (interrupted false 0 false controlsP) (replicate 63 0xff) 0xf2 (refused 5 0) ∷
+    untouched (interrupted false 0 false controlsP) twoPosted 0xf2 (refused 3 0) ∷
+    -- a vector above 255, in either mode; a flag above bit 10
+    untouched (interrupted true 0 false (notified 0x100 0x633 0)) twoPosted 0x100 (refused 2 0) ∷
+    untouched (interrupted false 0 false (notified 0x100 0x633 0)) twoPosted 0x100 (refused 2 0) ∷
+    untouched (interrupted true 0 false (notified 0xf2 0xe33 0)) twoPosted 0xf2 (refused 2 0) ∷ []
 
 -- a row of the search: a page, a register's base, and what is found there
 pub record Search : Type 0 where

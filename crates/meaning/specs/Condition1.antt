@@ -1,8 +1,8 @@
--- Condition 1 of the tender, and document 01, "What comes back": which inputs are refused, and what each answer leaves, on any page
+-- Condition 1 of the tender, document 01, "What comes back", and E1 of document 02: which inputs are refused, and what each answer leaves, on any page
 -- slice and any record.
-use Prim.Native.Nat.{ℕ}
+use Prim.Native.Nat.{ℕ, _/_, _<_}
 use mathlib.Core.Path.{_≡_}
-use mathlib.Core.Bool.{Bool, true, false}
+use mathlib.Core.Bool.{Bool, true, false, _&&_}
 use mathlib.Core.List.{List}
 use lib.Dec.{eqb, ltb}
 use lib.ListN.{length}
@@ -17,6 +17,7 @@ use Rattle.events.specs.declared.event.Event.{Event}
 use Rattle.events.specs.declared.event.Event.the-variants.{Entry}
 use Rattle.page.specs.Page.{byteAt}
 use Rattle.rules.specs.EntryChecks.{failingCheck}
+use Rattle.descriptor.specs.Descriptor.{outstandingByte, cleared}
 use Rattle.meaning.specs.After.{After}
 
 -- refused by its number, other numbers zero save the failing check's, with page and record unchanged
@@ -54,3 +55,22 @@ pub record LeaveAnswered (p : List ℕ) (r : Record) (a : After) : Type 0 where
   pub malformed : flagsInBounds (r .controls) ≡ false → Refused 2 0 p r a
   pub wrongMode : flagsInBounds (r .controls) ≡ true → r .guest ≡ false → Refused 3 0 p r a
   pub other : flagsInBounds (r .controls) ≡ true → r .guest ≡ true → CarriedOut p r a
+
+-- The descriptor d′ that an external interrupt leaves of a descriptor d: unless the answer is quiet it is d; with it the outstanding bit
+-- and the posted bits are cleared. Its length, bits 7:1 of byte 32 and the bytes above never change.
+pub record DescriptorLeft (d : List ℕ) (a : After) (d′ : List ℕ) : Type 0 where
+  pub kept : eqb (a .answer .answer) 6 ≡ false → d′ ≡ d
+  pub taken : eqb (a .answer .answer) 6 ≡ true → d′ ≡ cleared d
+  pub size : length d′ ≡ length d
+  pub above : byteAt d′ outstandingByte / 2 ≡ byteAt d outstandingByte / 2
+  pub rest : (i : ℕ) → outstandingByte < i → byteAt d′ i ≡ byteAt d i
+
+-- An external interrupt, with any descriptor slice: a wrong page length, a descriptor of another length, a malformed record or vector and
+-- root mode are refused, in this order, and nothing else is.
+pub record ExternalAnswered (p : List ℕ) (r : Record) (d : List ℕ) (vector : ℕ) (a : After) (d′ : List ℕ) : Type 0 where
+  pub wrongLength : eqb (length p) 4096 ≡ false → Refused 1 0 p r a
+  pub wrongDescriptor : eqb (length p) 4096 ≡ true → eqb (length d) 64 ≡ false → Refused 5 0 p r a
+  pub malformed : eqb (length p) 4096 ≡ true → eqb (length d) 64 ≡ true → (flagsInBounds (r .controls) && ltb vector 256) ≡ false → Refused 2 0 p r a
+  pub wrongMode : eqb (length p) 4096 ≡ true → eqb (length d) 64 ≡ true → (flagsInBounds (r .controls) && ltb vector 256) ≡ true → r .guest ≡ false → Refused 3 0 p r a
+  pub other : eqb (length p) 4096 ≡ true → eqb (length d) 64 ≡ true → (flagsInBounds (r .controls) && ltb vector 256) ≡ true → r .guest ≡ true → CarriedOut p r a
+  pub descriptor : DescriptorLeft d a d′

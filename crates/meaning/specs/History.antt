@@ -6,7 +6,7 @@ use Rattle.events.specs.declared.answer.Numbers.{Numbers}
 use Rattle.processor.specs.Controls.{virtualDelivery}
 use Rattle.events.specs.declared.event.Event.{Event}
 use Rattle.events.specs.declared.event.Event.the-variants.{Entry, Request, MemoryRead, MemoryWrite, ToCr8, FromCr8, Rdmsr, Wrmsr, Boundary}
-use Rattle.meaning.specs.Input.{Input, given, leaves}
+use Rattle.meaning.specs.Input.{Input, given, external, leaves}
 use Rattle.meaning.specs.Run.{start, answers}
 use Rattle.meaning.specs.Moves.{Move, stays, raises, delivers, retires, moveOf}
 
@@ -24,6 +24,7 @@ eventOn (Boundary interrupts sti movSs activity) = true
 
 abbrev pub deliveryOn : Input → Bool
 deliveryOn (given e) = eventOn e
+deliveryOn (external d vector) = true
 deliveryOn leaves = true
 
 -- every entry attempted has virtual-interrupt delivery on

@@ -5,6 +5,7 @@ pub mod Entry
 pub mod Memory
 pub mod Cr8Msr
 pub mod Boundary
+pub mod External
 pub mod Leave
 pub mod Refusals
 pub mod Step
@@ -12,6 +13,7 @@ pub mod Run
 pub mod Condition1
 pub mod Bench
 pub mod Moves
+pub mod Requests
 pub mod Settled
 pub mod Widths
 pub mod History

@@ -11,7 +11,8 @@ use Rattle.events.specs.declared.event.Event.{Event}
 use Rattle.events.specs.declared.event.Event.the-variants.{Entry, Request, MemoryRead, MemoryWrite, ToCr8, FromCr8, Rdmsr, Wrmsr, Boundary}
 use Rattle.processor.specs.Offsets.{veoi, visr, virr, vicrLo}
 use Rattle.registers.specs.Vectors.{isSet, put, highest}
-use Rattle.meaning.specs.Input.{Input, given, leaves}
+use Rattle.descriptor.specs.Descriptor.{postedVectors}
+use Rattle.meaning.specs.Input.{Input, given, external, leaves}
 use Rattle.meaning.specs.After.{After}
 
 -- nothing; raise a list of vectors; deliver RVI; retire SVI
@@ -69,9 +70,10 @@ eventMove (Rdmsr index) n = stays
 eventMove (Wrmsr index value) n = wrmsrMove index value n
 eventMove (Boundary interrupts sti movSs activity) n = deliversIf (isDelivered n) (n .first)
 
--- which input and answer go with which move
+-- which input and answer go with which move; a posting that was carried out raises the posted vectors
 unfoldable pub moveOf : Input → Numbers → Move
 moveOf (given e) n = eventMove e n
+moveOf (external d vector) n = raisesIf (isQuiet n) (postedVectors d)
 moveOf leaves n = stays
 
 -- the request bits after the move

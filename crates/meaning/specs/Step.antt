@@ -6,13 +6,14 @@ use Rattle.events.specs.declared.answer.Refusal.{Refusal}
 use Rattle.events.specs.declared.answer.Refusal.the-variants.{None, By}
 use Rattle.events.specs.declared.event.Event.{Event}
 use Rattle.events.specs.declared.event.Event.the-variants.{Entry, Request, MemoryRead, MemoryWrite, ToCr8, FromCr8, Rdmsr, Wrmsr, Boundary}
-use Rattle.meaning.specs.Input.{Input, given, leaves}
+use Rattle.meaning.specs.Input.{Input, given, external, leaves}
 use Rattle.meaning.specs.After.{After, refused}
 use Rattle.meaning.specs.Refusals.{refusalOf}
 use Rattle.meaning.specs.Entry.{entry, request}
 use Rattle.meaning.specs.Memory.{memoryRead, memoryWrite}
 use Rattle.meaning.specs.Cr8Msr.{movToCr8, movFromCr8, readMsr, writeMsr}
 use Rattle.meaning.specs.Boundary.{boundary}
+use Rattle.meaning.specs.External.{externalInterrupt, descriptorBy}
 use Rattle.meaning.specs.Leave.{left}
 
 -- what carries an event out, by its kind
@@ -30,6 +31,7 @@ eventOut p r (Boundary interrupts sti movSs activity) = boundary p r interrupts 
 -- what carries an input out
 unfoldable pub carriedOut : List ℕ → Record → Input → After
 carriedOut p r (given e) = eventOut p r e
+carriedOut p r (external d vector) = externalInterrupt p r d vector
 carriedOut p r leaves = left p r
 
 -- the refusal, if there is one, or what carries the input out
@@ -39,3 +41,7 @@ stepBy (By number check) p r i = refused number check p r
 
 unfoldable pub step : List ℕ → Record → Input → After
 step p r i = stepBy (refusalOf p r i) p r i
+
+-- what an external interrupt leaves of the descriptor
+unfoldable pub descriptorAfter : List ℕ → Record → List ℕ → ℕ → List ℕ
+descriptorAfter p r d vector = descriptorBy (refusalOf p r (external d vector)) r d vector

@@ -10,6 +10,7 @@ use Rattle.meaning.specs.Settled.{ByteRecord}
 pub record ControlsFit (c : Controls) : Type 0 where
   pub flags : c .flags < 2 ^ 32
   pub threshold : c .threshold < 2 ^ 32
+  pub notification : c .notification < 2 ^ 16
   pub eoi₀ : c .«eoi_exit_0» < 2 ^ 64
   pub eoi₁ : c .«eoi_exit_1» < 2 ^ 64
   pub eoi₂ : c .«eoi_exit_2» < 2 ^ 64

@@ -1,7 +1,8 @@
 // The model: one input at a time on a lent page.
 ghost use Rattle.meaning.specs.After.{Leaves};
-ghost use Rattle.meaning.specs.Input.{given, leaves};
-ghost use Rattle.meaning.specs.Step.{step as stepOf};
+ghost use Rattle.meaning.specs.External.{LeavesLent};
+ghost use Rattle.meaning.specs.Input.{given, external, leaves};
+ghost use Rattle.meaning.specs.Step.{step as stepOf, descriptorAfter};
 ghost use mathlib.Core.List.{List};
 ghost use Prim.Native.Nat.{ℕ};
 use events::answer::Outcome;
@@ -15,7 +16,8 @@ mod outcome;
 // The record before any event: root mode, all zero.
 pub use processor::controls::fresh_record;
 
-// Which refusal an event, or a guest that leaves, gets.
+// Which refusal an event, an external interrupt, or a guest that leaves, gets.
+pub use refusals::list::external_refusal_of;
 pub use refusals::list::leave_refusal_of;
 pub use refusals::list::refusal_of;
 
@@ -49,6 +51,22 @@ pub fn step(page: &mut [u8], record: Record, event: Event) -> Outcome
             mov_ss,
             activity,
         } => kinds::boundary(page, record, interrupts, sti, mov_ss, activity),
+    }
+}
+
+// An external interrupt with a vector on any page slice, any record and any descriptor slice, or its refusal.
+pub fn external_interrupt(
+    page: &mut [u8],
+    record: Record,
+    descriptor: &mut [u8],
+    vector: u32,
+) -> Outcome
+    ensures { λ r. ⌜ LeavesLent (stepOf (now (page .entry)) «record» (external (now (descriptor .entry)) vector)) (descriptorAfter (now (page .entry)) «record» (now (descriptor .entry)) vector) r (now (page .exit)) (now (descriptor .exit)) ⌝ }
+{
+    let refusal = external_refusal_of(page, record, descriptor, vector);
+    match refusal {
+        Refusal::None => posting::external_interrupt(page, record, descriptor, vector),
+        Refusal::By { number, check } => outcome::refused(record, number, check),
     }
 }
 

@@ -1,4 +1,4 @@
--- Document 01, "Processor record and controls".
+-- Document 01, "Processor record and controls", with the controls of E1 of document 02.
 use Prim.Native.Nat.{ℕ, _/_, _%_, _^_}
 use mathlib.Core.Bool.{Bool, false}
 use lib.Dec.{eqb, ltb}
@@ -47,9 +47,17 @@ cr8LoadExiting c = isOn c 7
 abbrev pub cr8StoreExiting : Controls → Bool
 cr8StoreExiting c = isOn c 8
 
+-- 9 process posted interrupts
+abbrev pub processPostedInterrupts : Controls → Bool
+processPostedInterrupts c = isOn c 9
+
+-- 10 acknowledge interrupt on exit
+abbrev pub acknowledgeOnExit : Controls → Bool
+acknowledgeOnExit c = isOn c 10
+
 -- Where the flags are held in a number, its other bits must be 0.
 abbrev pub flagsInBounds : Controls → Bool
-flagsInBounds c = ltb (c .flags) (2 ^ 9)
+flagsInBounds c = ltb (c .flags) (2 ^ 11)
 
 -- 256 EOI-exit bits, four 64-bit words
 unfoldable pub eoiExitWord : Controls → ℕ → ℕ
@@ -63,9 +71,9 @@ eoiExitWord c w =
 abbrev pub eoiExit : Controls → ℕ → Bool
 eoiExit c v = bit (eoiExitWord c (v / 64)) (v % 64)
 
--- every control off, threshold and EOI-exit bits 0
+-- every control off, threshold, notification vector and EOI-exit bits 0
 abbrev pub noControls : Controls
-noControls = record { flags = 0; threshold = 0; «eoi_exit_0» = 0; «eoi_exit_1» = 0; «eoi_exit_2» = 0; «eoi_exit_3» = 0 }
+noControls = record { flags = 0; threshold = 0; notification = 0; «eoi_exit_0» = 0; «eoi_exit_1» = 0; «eoi_exit_2» = 0; «eoi_exit_3» = 0 }
 
 -- Fresh: root, all zero.
 abbrev pub fresh : Record

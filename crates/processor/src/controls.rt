@@ -22,9 +22,14 @@ pub const CR8_LOAD_EXITING: u8 = 7;
 
 pub const CR8_STORE_EXITING: u8 = 8;
 
+pub const PROCESS_POSTED_INTERRUPTS: u8 = 9;
+
+pub const ACKNOWLEDGE_ON_EXIT: u8 = 10;
+
 pub struct Controls {
     pub flags: u32,
     pub threshold: u32,
+    pub notification: u16,
     pub eoi_exit_0: u64,
     pub eoi_exit_1: u64,
     pub eoi_exit_2: u64,
@@ -48,11 +53,11 @@ impl Controls {
         (self.flags >> at) % 2 == 1
     }
 
-    // The flags have no bit above bit 8.
+    // The flags have no bit above bit 10.
     pub fn flags_in_bounds(self) -> bool
         ensures { λ r. ⌜ r ≡ flagsInBounds self ⌝ }
     {
-        self.flags < 512
+        self.flags < 2048
     }
 
     fn eoi_exit_word(self, word: u8) -> u64
@@ -98,6 +103,7 @@ fn no_controls() -> Controls
     Controls {
         flags: 0,
         threshold: 0,
+        notification: 0,
         eoi_exit_0: 0,
         eoi_exit_1: 0,
         eoi_exit_2: 0,

@@ -1,14 +1,16 @@
-// The ordered list of refusals, of an event and of a guest that leaves.
+// The ordered list of refusals, of an event, of an external interrupt and of a guest that leaves.
 ghost use mathlib.Core.Path.{_≡_};
-ghost use mathlib.Core.Bool.{not, _&&_};
+ghost use mathlib.Core.Bool.{true, not, _&&_};
 ghost use mathlib.Core.List.{List};
 ghost use Prim.Native.Nat.{ℕ};
 ghost use lib.Dec.{eqb};
 ghost use lib.ListN.{length};
 ghost use Rattle.processor.specs.Controls.{flagsInBounds};
-ghost use Rattle.meaning.specs.Input.{given, leaves};
+ghost use Rattle.meaning.specs.Input.{given, external, leaves};
 ghost use Rattle.meaning.specs.Refusals.{eventCheck, firstRefusal, refusalOf};
+use descriptor::posted::descriptor_fits;
 use events::answer::Refusal;
+use events::bounds::VECTORS;
 use events::event::Event;
 use events::event::in_bounds;
 use events::event::is_allowed;
@@ -19,6 +21,8 @@ use rules::entry::failing_check;
 
 // The refusals by their numbers.
 const PAGE_LENGTH: u8 = 1;
+
+const DESCRIPTOR_LENGTH: u8 = 5;
 
 const BOUNDS: u8 = 2;
 
@@ -37,12 +41,18 @@ fn check_of(page: &[u8], event: Event) -> u8
 }
 
 // The refusals in their order, by what each test says.
-fn first_refusal(page: &[u8], fields: bool, mode: bool, check: u8) -> Refusal
-    ensures { λ r. ⌜ r ≡ firstRefusal (eqb (length (now (page .entry))) 4096) fields mode check ⌝ }
+fn first_refusal(page: &[u8], lent: bool, fields: bool, mode: bool, check: u8) -> Refusal
+    ensures { λ r. ⌜ r ≡ firstRefusal (eqb (length (now (page .entry))) 4096) lent fields mode check ⌝ }
 {
     if page.len() != 4096 {
         return Refusal::By {
             number: PAGE_LENGTH,
+            check: 0,
+        };
+    }
+    if !lent {
+        return Refusal::By {
+            number: DESCRIPTOR_LENGTH,
             check: 0,
         };
     }
@@ -69,19 +79,21 @@ fn first_refusal(page: &[u8], fields: bool, mode: bool, check: u8) -> Refusal
 
 // Which refusal an event of guest mode gets whose own fields fit, or don't.
 pub fn guest_refusal(page: &[u8], record: Record, fits: bool) -> Refusal
-    ensures { λ r. ⌜ r ≡ firstRefusal (eqb (length (now (page .entry))) 4096) (flagsInBounds («record» .controls) && fits) («record» .guest) 0 ⌝ }
+    ensures { λ r. ⌜ r ≡ firstRefusal (eqb (length (now (page .entry))) 4096) true (flagsInBounds («record» .controls) && fits) («record» .guest) 0 ⌝ }
 {
     let controls = record.controls;
-    first_refusal(page, controls.flags_in_bounds() & fits, record.guest, 0)
+    let fields = controls.flags_in_bounds() & fits;
+    first_refusal(page, true, fields, record.guest, 0)
 }
 
 // Which refusal an event of root mode gets whose own fields fit, or don't, and of which a check fails, or none.
 pub fn root_refusal(page: &[u8], record: Record, fits: bool, check: u8) -> Refusal
-    ensures { λ r. ⌜ r ≡ firstRefusal (eqb (length (now (page .entry))) 4096) (flagsInBounds («record» .controls) && fits) (not («record» .guest)) check ⌝ }
+    ensures { λ r. ⌜ r ≡ firstRefusal (eqb (length (now (page .entry))) 4096) true (flagsInBounds («record» .controls) && fits) (not («record» .guest)) check ⌝ }
 {
     let controls = record.controls;
     first_refusal(
         page,
+        true,
         controls.flags_in_bounds() & fits,
         !record.guest,
         check,
@@ -94,9 +106,24 @@ pub fn refusal_of(page: &[u8], record: Record, event: Event) -> Refusal
 {
     first_refusal(
         page,
+        true,
         in_bounds(record, event),
         is_allowed(record, event),
         check_of(page, event),
+    )
+}
+
+// Which refusal an external interrupt gets on a page, a record and a descriptor, or none.
+pub fn external_refusal_of(page: &[u8], record: Record, descriptor: &[u8], vector: u32) -> Refusal
+    ensures { λ r. ⌜ r ≡ refusalOf (now (page .entry)) «record» (external (now (descriptor .entry)) vector) ⌝ }
+{
+    let controls = record.controls;
+    first_refusal(
+        page,
+        descriptor_fits(descriptor),
+        controls.flags_in_bounds() & (vector < VECTORS as u32),
+        record.guest,
+        0,
     )
 }
 

@@ -10,7 +10,7 @@ use borrow.Author.Tests.{eqb-true, eqb-false}
 use Rattle.processor.specs.Logic.{if_then_else_}
 use Rattle.registers.specs.declared.found.Found.{Found}
 use Rattle.registers.specs.declared.found.Found.the-variants.{None, Vector}
-use Rattle.registers.specs.Vectors.{isSet, highestBelow, Finds}
+use Rattle.registers.specs.Vectors.{isSet, highestOf, highestBelow, Finds}
 
 lower : (v w : ℕ) → w < suc v → (w ≡ v → ⊥) → w < v
 lower v w l ne = omega arith
@@ -29,7 +29,7 @@ module _ (p : List ℕ) (base : ℕ) where
       up l = omega arith
 
   pub finds : (n : ℕ) → Finds p base n (highestBelow p base n)
-  unfolding highestBelow
+  unfolding highestOf
   finds zero = λ w l. absurd (not-suc-le-zero l)
   finds (suc v) = by (isSet p base v) refl (finds v)
     where

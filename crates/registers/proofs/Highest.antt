@@ -1,4 +1,5 @@
--- The search for the highest set vector: a word's by its leading zeros, word by word down the register at base 0. Assumes nothing.
+-- The search for the highest set place: a word's by its leading zeros, word by word down a row of 256 bits; the words of a register.
+-- Assumes nothing.
 use Prim.Native.Nat.{ℕ, zero, suc, _+_, _-_, _*_, _/_, _%_, _^_, _<_, _≤_}
 use native.Mathlib.Nat.{not-suc-le-zero, le-refl, add-zero, add-suc, sub-add-cancel, pow-succ', le-div-iff-mul-le, div-lt-iff-lt-mul}
 use native.Mathlib.Omega.{arith}
@@ -12,7 +13,7 @@ use Rattle.processor.specs.Logic.{if_then_else_, bit}
 use Rattle.page.specs.Page.{byteAt, wordAt}
 use Rattle.registers.specs.declared.found.Found.{Found}
 use Rattle.registers.specs.declared.found.Found.the-variants.{Vector}
-use Rattle.registers.specs.Vectors.{isSet, highestBelow, highestSet, foundAt, Places, highestBit}
+use Rattle.registers.specs.Vectors.{isSet, highestOf, foundAt, Places, highestBit}
 use Rattle.registers.proofs.Words.{vector-in-word}
 
 -- ---- the highest set bit of a word, by its leading zeros
@@ -64,46 +65,31 @@ leading-highest word n h =
     rest : (zeros high : ℕ) → high ≤ n → n - high ≡ zeros → n - zeros ≡ high
     rest zeros high l e = omega arith
 
--- ---- down a register, from word `left`
--- the search of m vectors and n more above them, by the highest of those n
-abbrev after : List ℕ → ℕ → ℕ → Found
-after p m zero = highestBelow p 0 m
-after p m (suc k) = Vector (m + k)
+-- ---- down a row of 256 bits that stands in words, from word `left`
+-- the search of m places and n more above them, by the highest of those n
+abbrev after : (ℕ → Bool) → ℕ → ℕ → Found
+after f m zero = highestOf f m
+after f m (suc k) = Vector (m + k)
 
-block : (p : List ℕ) (word m n : ℕ) → ((k : ℕ) → k < n → isSet p 0 (m + k) ≡ bit word k) → highestBelow p 0 (m + n) ≡ after p m (highestBit word n)
-unfolding highestBelow highestBit
-block p word m zero h = ap (λ x. highestBelow p 0 x) (add-zero m)
-block p word m (suc k) h = ap (λ x. highestBelow p 0 x) (add-suc m k) ∙ by (bit word k) (h k (le-refl (suc k))) (block p word m k (λ j l. h j (omega arith)))
+block : (f : ℕ → Bool) (word m n : ℕ) → ((k : ℕ) → k < n → f (m + k) ≡ bit word k) → highestOf f (m + n) ≡ after f m (highestBit word n)
+unfolding highestOf highestBit
+block f word m zero h = ap (λ x. highestOf f x) (add-zero m)
+block f word m (suc k) h = ap (λ x. highestOf f x) (add-suc m k) ∙ by (bit word k) (h k (le-refl (suc k))) (block f word m k (λ j l. h j (omega arith)))
   where
-    by : (b : Bool) → isSet p 0 (m + k) ≡ b → highestBelow p 0 (m + k) ≡ after p m (highestBit word k) → (if isSet p 0 (m + k) then Vector (m + k) else highestBelow p 0 (m + k)) ≡ after p m (if b then suc k else highestBit word k)
+    by : (b : Bool) → f (m + k) ≡ b → highestOf f (m + k) ≡ after f m (highestBit word k) → (if f (m + k) then Vector (m + k) else highestOf f (m + k)) ≡ after f m (if b then suc k else highestBit word k)
     by true e ih = simp e
     by false e ih = simp e ih
 
-module _ (p : List ℕ) (left : ℕ) (bytes : (i : ℕ) → byteAt p i < 256) (some : 0 < left) (most : left ≤ 8) (rest : highestSet p 0 ≡ highestBelow p 0 (32 * left)) where
-  abbrev word : ℕ
-  word = wordAt p (16 * (left - 1))
-
-  at-bit : (k : ℕ) → k < 32 → isSet p 0 (32 * (left - 1) + k) ≡ bit word k
-  at-bit k h =
-      vector-in-word p 0 (32 * (left - 1) + k) bytes
-      ∙ ap (λ x. bit (wordAt p x) ((32 * (left - 1) + k) % 32)) (row (left - 1) k h)
-      ∙ ap (λ x. bit word x) (column (left - 1) k h)
-    where
-      row : (a k : ℕ) → k < 32 → 0 + (32 * a + k) / 32 * 16 ≡ 16 * a
-      row a k h = omega arith
-
-      column : (a k : ℕ) → k < 32 → (32 * a + k) % 32 ≡ k
-      column a k h = omega arith
-
-  by-word : highestSet p 0 ≡ after p (32 * (left - 1)) (highestBit word 32)
-  by-word = rest ∙ ap (λ x. highestBelow p 0 x) down ∙ block p word (32 * (left - 1)) 32 at-bit
+module _ (f : ℕ → Bool) (word left : ℕ) (at-bit : (k : ℕ) → k < 32 → f (32 * (left - 1) + k) ≡ bit word k) (some : 0 < left) (most : left ≤ 8) (rest : highestOf f 256 ≡ highestOf f (32 * left)) where
+  by-word : highestOf f 256 ≡ after f (32 * (left - 1)) (highestBit word 32)
+  by-word = rest ∙ ap (λ x. highestOf f x) down ∙ block f word (32 * (left - 1)) 32 at-bit
     where
       down : 32 * left ≡ 32 * (left - 1) + 32
       down = omega arith
 
-  pub word-found : (found : ℕ) → found ≡ highestBit word 32 → 0 < found → Places p 0 (32 * (left - 1) + found - 1)
+  pub word-found : (found : ℕ) → found ≡ highestBit word 32 → 0 < found → Places f (32 * (left - 1) + found - 1)
   word-found zero e h = absurd (not-suc-le-zero h)
-  word-found (suc k) e h = record { within = within (bit-most word 32); found = is-vector ∙ sym (by-word ∙ ap (λ x. after p (32 * (left - 1)) x) (sym e)) }
+  word-found (suc k) e h = record { within = within (bit-most word 32); found = is-vector ∙ sym (by-word ∙ ap (λ x. after f (32 * (left - 1)) x) (sym e)) }
     where
       within : highestBit word 32 ≤ 32 → 32 * (left - 1) + suc k - 1 ≤ 256
       within l = omega arith
@@ -117,12 +103,25 @@ module _ (p : List ℕ) (left : ℕ) (bytes : (i : ℕ) → byteAt p i < 256) (s
       is-vector : foundAt (32 * (left - 1) + suc k - 1) ≡ Vector (32 * (left - 1) + k)
       is-vector = simp (ne-eqb _ _ (below (bit-most word 32))) (ap (λ x. Vector x) place)
 
-  pub word-next : (found : ℕ) → found ≡ highestBit word 32 → found ≤ 0 → highestSet p 0 ≡ highestBelow p 0 (32 * (left - 1))
-  word-next zero e h = by-word ∙ ap (λ x. after p (32 * (left - 1)) x) (sym e)
+  pub word-next : (found : ℕ) → found ≡ highestBit word 32 → found ≤ 0 → highestOf f 256 ≡ highestOf f (32 * (left - 1))
+  word-next zero e h = by-word ∙ ap (λ x. after f (32 * (left - 1)) x) (sym e)
   word-next (suc k) e h = absurd (not-suc-le-zero h)
 
 -- after the last word nothing is left
-pub words-over : (p : List ℕ) (left : ℕ) → left ≤ 0 → highestSet p 0 ≡ highestBelow p 0 (32 * left) → Places p 0 256
-unfolding highestBelow
-words-over p zero h e = record { within = le-refl 256; found = sym e }
-words-over p (suc n) h e = absurd (not-suc-le-zero h)
+pub words-over : (f : ℕ → Bool) (left : ℕ) → left ≤ 0 → highestOf f 256 ≡ highestOf f (32 * left) → Places f 256
+unfolding highestOf
+words-over f zero h e = record { within = le-refl 256; found = sym e }
+words-over f (suc n) h e = absurd (not-suc-le-zero h)
+
+-- ---- the words of a register at base 0
+pub register-bit : (p : List ℕ) (left : ℕ) → ((i : ℕ) → byteAt p i < 256) → (k : ℕ) → k < 32 → isSet p 0 (32 * (left - 1) + k) ≡ bit (wordAt p (16 * (left - 1))) k
+register-bit p left bytes k h =
+    vector-in-word p 0 (32 * (left - 1) + k) bytes
+    ∙ ap (λ x. bit (wordAt p x) ((32 * (left - 1) + k) % 32)) (row (left - 1) k h)
+    ∙ ap (λ x. bit (wordAt p (16 * (left - 1))) x) (column (left - 1) k h)
+  where
+    row : (a k : ℕ) → k < 32 → 0 + (32 * a + k) / 32 * 16 ≡ 16 * a
+    row a k h = omega arith
+
+    column : (a k : ℕ) → k < 32 → (32 * a + k) % 32 ≡ k
+    column a k h = omega arith

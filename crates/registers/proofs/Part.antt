@@ -12,7 +12,7 @@ use lib.Seq.{set-out, take-all, getD-drop}
 use borrow.Author.Tests.{ltb-true, ltb-false}
 use borrow.Rule.Slice.PartMut.{midOf, putMid, mid-len, put-same, set-mid-at}
 use Rattle.registers.specs.declared.found.Found.the-variants.{None}
-use Rattle.registers.specs.Vectors.{isSet, highestBelow, highestSet}
+use Rattle.registers.specs.Vectors.{isSet, highestOf, highestSet}
 use Rattle.registers.proofs.Top.{found-same}
 
 module _ (p : List ℕ) (base : ℕ) where
@@ -50,5 +50,5 @@ module _ (p : List ℕ) (base : ℕ) where
 
   -- past the page's end nothing is set
   pub found-past : length p ≤ base → None ≡ highestSet p base
-  unfolding isSet highestBelow
+  unfolding isSet highestOf
   found-past h = ap (λ q. highestSet q 0) (sym (part-all ∙ drop-of-length-le p h)) ∙ found-part

@@ -7,8 +7,8 @@ use mathlib.Core.Bool.{Bool, true, false, Bool·beq}
 use mathlib.Core.List.{List}
 use lib.Dec.{eqb, ltb, ltb→lt}
 use lib.ListN.{length, getD, set}
-use lib.Seq.{getD-set-same, getD-set-other}
-use borrow.Author.Tests.{eqb-true, eqb-false, eq-eqb, ne-eqb}
+use lib.Seq.{getD-set-same, getD-set-other, set-out}
+use borrow.Author.Tests.{eqb-true, eqb-false, eq-eqb, ne-eqb, ltb-true, ltb-false}
 use Rattle.processor.specs.Logic.{if_then_else_, bit, allBelow}
 use Rattle.processor.proofs.Tests.{below, same}
 use Rattle.page.specs.Page.{byteAt}
@@ -85,6 +85,18 @@ module _ (p : List ℕ) (base : ℕ) (fits : base + 0x80 ≤ length p) (bytes : 
         where
           cancel : base + vectorByte w ≡ base + vectorByte v → vectorByte v ≡ vectorByte w
           cancel s = omega arith
+
+-- bytes with a byte stored among them are bytes
+pub set-byte : (p : List ℕ) (i x : ℕ) → ((j : ℕ) → byteAt p j < 256) → x < 256 → (j : ℕ) → byteAt (set p i x) j < 256
+set-byte p i x h hx j = by (eqb j i) refl
+  where
+    at : (b : Bool) → ltb i (length p) ≡ b → byteAt (set p i x) i < 256
+    at true e = rw (getD-set-same p i x 0 (ltb-true i (length p) e)) hx
+    at false e = rw (set-out p i x (ltb-false i (length p) e)) (h i)
+
+    by : (b : Bool) → eqb j i ≡ b → byteAt (set p i x) j < 256
+    by true e = rw (eqb-true j i e) (at (ltb i (length p)) refl)
+    by false e = rw (getD-set-other p i j x 0 (eqb-false j i e)) (h j)
 
 -- a byte stored outside the register's bytes changes no bit of it
 pub isSet-other : (p : List ℕ) (base at x w : ℕ) → (base + vectorByte w ≡ at → ⊥) → isSet (setByte p at x) base w ≡ isSet p base w

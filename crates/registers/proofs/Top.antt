@@ -9,7 +9,7 @@ use lib.Dec.{eqb, ltb}
 use borrow.Author.Tests.{eq-eqb, eqb-true, eqb-false, ltb-true, ltb-false}
 use Rattle.processor.specs.Logic.{if_then_else_, larger}
 use Rattle.registers.specs.declared.found.Found.the-variants.{Vector}
-use Rattle.registers.specs.Vectors.{isSet, put, highestBelow, orElse, highest}
+use Rattle.registers.specs.Vectors.{isSet, put, highestOf, highestBelow, orElse, highest}
 
 -- the highest set place below n, 0 where there is none
 abbrev pub top : (ℕ → Bool) → ℕ → ℕ
@@ -18,7 +18,7 @@ top f (suc v) = if f v then v else top f v
 
 -- the search on a page's register, where none counts as 0, is that of the register's bits
 pub highest-top : (p : List ℕ) (base n : ℕ) → orElse (highestBelow p base n) 0 ≡ top (isSet p base) n
-unfolding highestBelow
+unfolding highestOf
 highest-top p base zero = refl
 highest-top p base (suc v) = by (isSet p base v) (highest-top p base v)
   where
@@ -33,7 +33,7 @@ top-ext f g (suc v) h = simp (h v (le-refl (suc v)), top-ext f g v (λ w l. h w 
 
 -- registers that agree bit by bit have one search, wherever they lie, and one highest vector
 pub found-same : (p q : List ℕ) (a b n : ℕ) → ((w : ℕ) → w < n → isSet p a w ≡ isSet q b w) → highestBelow p a n ≡ highestBelow q b n
-unfolding highestBelow
+unfolding highestOf
 found-same p q a b zero h = refl
 found-same p q a b (suc v) h = simp (h v (le-refl (suc v)), found-same p q a b v (λ w l. h w (omega arith)))
 

@@ -16,7 +16,7 @@ use Rattle.registers.specs.Vectors.{isSet}
 halves : (i : ℕ) → i < 8 → 256 ≡ 2 ^ i * (2 * 2 ^ (7 - i))
 halves i h = eqb→eq 256 (2 ^ i * (2 * 2 ^ (7 - i))) (below 8 (λ i. eqb 256 (2 ^ i * (2 * 2 ^ (7 - i)))) tt i h)
 
-low-bit : (b r i : ℕ) → i < 8 → bit (b + 256 * r) i ≡ bit b i
+pub low-bit : (b r i : ℕ) → i < 8 → bit (b + 256 * r) i ≡ bit b i
 low-bit b r i h =
     ap (λ x. eqb (x % 2) 1)
     (ap (λ x. (b + x * r) / 2 ^ i) (halves i h)
@@ -34,7 +34,7 @@ abbrev above : List ℕ → ℕ → ℕ → ℕ
 above p a j = wordAt p a / 2 ^ (8 * j) / 256
 
 module _ (p : List ℕ) (a : ℕ) (bytes : (i : ℕ) → byteAt p i < 256) where
-  byte-of : (j : ℕ) → j < 4 → wordAt p a / 2 ^ (8 * j) ≡ byteAt p (a + j) + 256 * above p a j
+  pub byte-of : (j : ℕ) → j < 4 → wordAt p a / 2 ^ (8 * j) ≡ byteAt p (a + j) + 256 * above p a j
   unfolding wordAt
   byte-of j h = by j h (bytes a) (bytes (a + 1)) (bytes (a + 2)) (bytes (a + 3))
     where
@@ -54,7 +54,7 @@ module _ (p : List ℕ) (a : ℕ) (bytes : (i : ℕ) → byteAt p i < 256) where
           over : suc (suc (suc (suc j))) < 4 → ⊥
           over l = omega arith
 
-  word-bit : (k : ℕ) → k < 32 → bit (wordAt p a) k ≡ bit (byteAt p (a + k / 8)) (k % 8)
+  pub word-bit : (k : ℕ) → k < 32 → bit (wordAt p a) k ≡ bit (byteAt p (a + k / 8)) (k % 8)
   word-bit k h =
       ap (λ x. eqb (wordAt p a / x % 2) 1) (places k h)
       ∙ ap (λ x. eqb (x % 2) 1) (sym (div-div-eq-div-mul (wordAt p a) (2 ^ (8 * (k / 8))) (2 ^ (k % 8))))

@@ -37,10 +37,14 @@ clearVector p base v = putVector p base v false
 abbrev pub put : (ℕ → Bool) → ℕ → Bool → ℕ → Bool
 put f v on w = if eqb v w then on else f w
 
+-- the highest set place below n of a row of bits, or none
+unfoldable pub highestOf : (ℕ → Bool) → ℕ → Found
+highestOf f zero = None
+highestOf f (suc v) = if f v then Vector v else highestOf f v
+
 -- the highest set vector below n, or none
-unfoldable pub highestBelow : List ℕ → ℕ → ℕ → Found
-highestBelow p base zero = None
-highestBelow p base (suc v) = if isSet p base v then Vector v else highestBelow p base v
+abbrev pub highestBelow : List ℕ → ℕ → ℕ → Found
+highestBelow p base n = highestOf (isSet p base) n
 
 -- the highest set vector of the register at the base, or none
 abbrev pub highestSet : List ℕ → ℕ → Found
@@ -65,10 +69,10 @@ highest p base = orElse (highestSet p base) 0
 abbrev pub foundAt : ℕ → Found
 foundAt place = if eqb place 256 then None else Vector place
 
--- a number that says what is found in the register at the base
-pub record Places (p : List ℕ) (base place : ℕ) : Type 0 where
+-- a number that says what is found in a row of 256 bits
+pub record Places (f : ℕ → Bool) (place : ℕ) : Type 0 where
   pub within : place ≤ 256
-  pub found : foundAt place ≡ highestSet p base
+  pub found : foundAt place ≡ highestOf f 256
 
 -- what it asks of a word: its highest set bit below bit n, counted from 1; 0 where none is set
 unfoldable pub highestBit : ℕ → ℕ → ℕ

@@ -2,7 +2,7 @@
 ghost use mathlib.Core.Path.{_≡_};
 ghost use Prim.Native.Nat.{_%_, _≤_};
 ghost use Rattle.processor.specs.Offsets.{virr, visr};
-ghost use Rattle.registers.specs.Vectors.{vectorByte, putBit, putVector, highestBit, highestSet, foundAt, Places};
+ghost use Rattle.registers.specs.Vectors.{vectorByte, putBit, putVector, isSet, highestBit, highestSet, foundAt, Places};
 use crate::found::Found;
 use page::bytes::word_at;
 use processor::offsets::VIRR;
@@ -47,7 +47,7 @@ pub fn put_vector(page: &mut [u8], base: u16, vector: u8, on: bool)
 }
 
 // The highest set bit of a word, counted from 1: what its leading zeros leave of its 32 bits; 0 where none is set.
-fn highest_bit(word: u32) -> u32
+pub fn highest_bit(word: u32) -> u32
     ensures { λ r. ⌜ r ≡ highestBit word 32 ⌝ }
 {
     if word == 0 {
@@ -58,7 +58,7 @@ fn highest_bit(word: u32) -> u32
 
 // The highest set vector of a register that starts where the slice does: its eight words from the top; 256 where none is set.
 fn highest_in(register: &[u8]) -> u32
-    ensures { λ r. ⌜ Places (now (register .entry)) 0 r ⌝ }
+    ensures { λ r. ⌜ Places (isSet (now (register .entry)) 0) r ⌝ }
 {
     let mut left: u32 = 8;
     while 0 < left {
@@ -73,7 +73,7 @@ fn highest_in(register: &[u8]) -> u32
 
 // The same of the page's register at an offset.
 fn highest_from(page: &[u8], at: usize) -> u32
-    ensures { λ r. ⌜ Places (now (page .entry)) at r ⌝ }
+    ensures { λ r. ⌜ Places (isSet (now (page .entry)) at) r ⌝ }
 {
     if at <= page.len() {
         return highest_in(&page[at..]);

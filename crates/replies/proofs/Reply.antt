@@ -9,12 +9,12 @@ use Rattle.events.specs.Answers.{numbers}
 use Rattle.events.specs.declared.answer.Numbers.{Numbers}
 use Rattle.events.specs.declared.answer.Outcome.{Outcome}
 use Rattle.events.specs.declared.event.Event.the-variants.{Entry, Request, MemoryRead, MemoryWrite, ToCr8, FromCr8, Rdmsr, Wrmsr, Boundary}
-use Rattle.meaning.specs.Input.{Input, given, leaves}
+use Rattle.meaning.specs.Input.{Input, given, external, leaves}
 use Rattle.meaning.specs.After.{After, Leaves}
 use Rattle.meaning.specs.Step.{step}
 use Rattle.meaning.proofs.Laws.{controls-after}
 use Rattle.layout.specs.RecordBytes.{controlsOf, recordOf}
-use Rattle.replies.specs.Replies.{Told, Replies, refused, replied}
+use Rattle.replies.specs.Replies.{Told, Replies, refused, refusedLent, replied, RepliesLent}
 
 -- a refusal's numbers, on bytes that stay
 pub refusal : (number : ℕ) (p b : List ℕ) (n : Numbers) → n ≡ numbers 0 number 0 → Replies (refused number p b) (n .answer) (n .first) (n .second) b p
@@ -26,6 +26,10 @@ refusal number p b n e =
       recordBytes = refl;
       page = refl;
     }
+
+-- and on a descriptor that stays
+pub refusal-lent : (number : ℕ) (p b d : List ℕ) (n : Numbers) → n ≡ numbers 0 number 0 → RepliesLent (refusedLent number p b d) (n .answer) (n .first) (n .second) b p d
+refusal-lent number p b d n e = record { reply = refusal number p b n e; descriptor = refl }
 
 -- the model's answer, with the record's bytes as its number says
 module _ (a : After) (o : Outcome) (p b b′ : List ℕ) (n : Numbers) where
@@ -51,6 +55,7 @@ isEntry (given (FromCr8 register)) = false
 isEntry (given (Rdmsr index)) = false
 isEntry (given (Wrmsr index value)) = false
 isEntry (given (Boundary interrupts sti movSs activity)) = false
+isEntry (external d vector) = false
 isEntry leaves = false
 
 -- the outcome of any other input has the controls that the record's bytes hold

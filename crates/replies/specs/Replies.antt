@@ -1,4 +1,4 @@
--- What gg_step and gg_leave reply, and what they leave in the lent bytes.
+-- What gg_step, gg_external_interrupt and gg_leave reply, and what they leave in the lent bytes.
 use Prim.Native.Nat.{ℕ}
 use mathlib.Core.Path.{_≡_}
 use mathlib.Core.Bool.{Bool, not, _&&_}
@@ -10,9 +10,10 @@ use Rattle.events.specs.Answers.{numbersOf}
 use Rattle.events.specs.declared.answer.Numbers.{Numbers}
 use Rattle.events.specs.declared.answer.Outcome.{Outcome}
 use Rattle.events.specs.declared.event.Event.{Event}
-use Rattle.meaning.specs.Input.{given, leaves}
+use Rattle.meaning.specs.Input.{given, external, leaves}
 use Rattle.meaning.specs.After.{After}
-use Rattle.meaning.specs.Step.{step}
+use Rattle.meaning.specs.Step.{step, descriptorAfter}
+use Rattle.descriptor.specs.Descriptor.{descriptorFits}
 use Rattle.layout.specs.RecordBytes.{recordReadable, recordOf, kept}
 use Rattle.replies.specs.EventBytes.{eventReadable, eventOf}
 
@@ -73,10 +74,42 @@ ggLeave p b =
     else if not (recordReadable b) then refused 2 p b
     else leaveReply p b
 
--- The claim of gg_step and gg_leave: the answer, its two values, the record's bytes and the page are the definition's.
+-- The claim of gg_step and gg_leave, and of gg_external_interrupt without its descriptor: the answer, its two values, the record's bytes and the page are the definition's.
 pub record Replies (a : Reply) (n f s : ℕ) (b p : List ℕ) : Type 0 where
   pub answer : n ≡ a .answer
   pub first : f ≡ a .first
   pub second : s ≡ a .second
   pub recordBytes : b ≡ a .recordBytes
   pub page : p ≡ a .page
+
+-- ---- a call that takes a descriptor replies with its bytes too
+pub record LentReply : Type 0 where
+  pub reply : Reply
+  pub descriptor : List ℕ
+
+-- refused: page, record bytes and descriptor unchanged
+abbrev pub refusedLent : ℕ → List ℕ → List ℕ → List ℕ → LentReply
+refusedLent number p b d = record { reply = refused number p b; descriptor = d }
+
+-- the model's step on a record that can be read
+unfoldable pub externalReply : List ℕ → List ℕ → List ℕ → ℕ → LentReply
+externalReply p b d vector =
+    record {
+      reply = replied b (step p (recordOf b) (external d vector));
+      descriptor = descriptorAfter p (recordOf b) d vector;
+    }
+
+-- Refusal 1: the page isn't 4,096 bytes. 5: the descriptor isn't 64. 2: the record isn't 48, or cannot be read. The model's refusals
+-- follow.
+unfoldable pub ggExternalInterrupt : List ℕ → List ℕ → List ℕ → ℕ → LentReply
+ggExternalInterrupt p b d vector =
+    if not (eqb (length p) 4096) then refusedLent 1 p b d
+    else if not (descriptorFits d) then refusedLent 5 p b d
+    else if not (eqb (length b) 48) then refusedLent 2 p b d
+    else if not (recordReadable b) then refusedLent 2 p b d
+    else externalReply p b d vector
+
+-- The claim of gg_external_interrupt: the reply, and every byte of the descriptor.
+pub record RepliesLent (a : LentReply) (n f s : ℕ) (b p d : List ℕ) : Type 0 where
+  pub reply : Replies (a .reply) n f s b p
+  pub descriptor : d ≡ a .descriptor

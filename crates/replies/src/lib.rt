@@ -5,6 +5,7 @@ ghost use Prim.Native.Nat.{ℕ};
 ghost use lib.ListN.{length};
 ghost use Rattle.replies.specs.Replies.{Replies, ggStep, leaveReply, ggLeave};
 use events::answer::Numbers;
+pub use external::external_bytes;
 use kinds::kind_reply;
 use layout::record_of;
 use layout::record_readable;
@@ -12,6 +13,7 @@ use told::refused;
 use told::told_status;
 
 mod event_bytes;
+mod external;
 mod kinds;
 mod told;
 

@@ -1,9 +1,9 @@
--- Document 01, "Entry and request", with E2 of document 02: the checks, and when exit 43 follows at once.
+-- Document 01, "Entry and request", with E1 and E2 of document 02: the checks, and when exit 43 follows at once.
 use Prim.Native.Nat.{ℕ}
 use mathlib.Core.Bool.{Bool, not, _&&_, _||_}
 use lib.Dec.{ltb}
 use Rattle.processor.specs.Logic.{if_then_else_}
-use Rattle.processor.specs.Controls.{useTprShadow, virtualizeApicAccesses, virtualizeX2apicMode, apicRegisterVirtualization, virtualDelivery, externalInterruptExiting}
+use Rattle.processor.specs.Controls.{useTprShadow, virtualizeApicAccesses, virtualizeX2apicMode, apicRegisterVirtualization, virtualDelivery, externalInterruptExiting, processPostedInterrupts, acknowledgeOnExit}
 use Rattle.rules.specs.Priorities.{class}
 use Rattle.processor.specs.declared.controls.Controls.{Controls}
 
@@ -23,6 +23,10 @@ check3 c = virtualDelivery c && not (externalInterruptExiting c)
 abbrev pub check4 : Controls → Bool
 check4 c = useTprShadow c && not (virtualDelivery c) && ltb 15 (c .threshold)
 
+-- 5, posting on without VID, without acknowledge, or with a notification vector above 255
+abbrev pub check5 : Controls → Bool
+check5 c = processPostedInterrupts c && (not (virtualDelivery c) || not (acknowledgeOnExit c) || ltb 255 (c .notification))
+
 -- E2, both cases: shadow on, VID off, and the threshold above VTPR's class
 abbrev pub thresholdTooHigh : Controls → ℕ → Bool
 thresholdTooHigh c vtpr = useTprShadow c && not (virtualDelivery c) && ltb (class vtpr) (c .threshold)
@@ -38,6 +42,7 @@ failingCheck c vtpr =
     else if check2 c then 2
     else if check3 c then 3
     else if check4 c then 4
+    else if check5 c then 5
     else if check6 c vtpr then 6
     else 0
 

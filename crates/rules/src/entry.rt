@@ -1,9 +1,11 @@
 // The entry checks, and when exit 43 follows an entry at once.
 ghost use mathlib.Core.Path.{_≡_};
-ghost use Rattle.rules.specs.EntryChecks.{check1, check2, check3, check4, thresholdTooHigh, check6, failingCheck, exitsAtEntry};
+ghost use Rattle.rules.specs.EntryChecks.{check1, check2, check3, check4, check5, thresholdTooHigh, check6, failingCheck, exitsAtEntry};
+use processor::controls::ACKNOWLEDGE_ON_EXIT;
 use processor::controls::APIC_REGISTER_VIRTUALIZATION;
 use processor::controls::Controls;
 use processor::controls::EXTERNAL_INTERRUPT_EXITING;
+use processor::controls::PROCESS_POSTED_INTERRUPTS;
 use processor::controls::USE_TPR_SHADOW;
 use processor::controls::VIRTUAL_DELIVERY;
 use processor::controls::VIRTUALIZE_APIC_ACCESSES;
@@ -36,6 +38,13 @@ fn check_4(c: Controls) -> bool
     c.is_on(USE_TPR_SHADOW) & !c.is_on(VIRTUAL_DELIVERY) & (15 < c.threshold)
 }
 
+fn check_5(c: Controls) -> bool
+    ensures { λ r. ⌜ r ≡ check5 c ⌝ }
+{
+    c.is_on(PROCESS_POSTED_INTERRUPTS)
+        & (!c.is_on(VIRTUAL_DELIVERY) | !c.is_on(ACKNOWLEDGE_ON_EXIT) | (255 < c.notification))
+}
+
 // Shadow on, VID off, and the threshold above VTPR's class.
 fn threshold_too_high(c: Controls, vtpr: u8) -> bool
     ensures { λ r. ⌜ r ≡ thresholdTooHigh c vtpr ⌝ }
@@ -64,6 +73,9 @@ pub fn failing_check(c: Controls, vtpr: u8) -> u8
     }
     if check_4(c) {
         return 4;
+    }
+    if check_5(c) {
+        return 5;
     }
     if check_6(c, vtpr) {
         return 6;

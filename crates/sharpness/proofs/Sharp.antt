@@ -9,7 +9,7 @@ use Rattle.processor.specs.Logic.{larger}
 use Rattle.rules.specs.Priorities.{ppr}
 use Rattle.page.specs.Page.{wordAt}
 use Rattle.stores.specs.Stores.{setWord, storeAt}
-use Rattle.registers.specs.Vectors.{isSet, putVector, highestBelow, highest}
+use Rattle.registers.specs.Vectors.{isSet, putVector, highestOf, highest}
 use Rattle.meaning.specs.Procedures.{pprVirtualization, evaluation, evaluatedQuiet, requestedPage, requestedRecord, selfIpiVirtualization}
 use Rattle.meaning.specs.Entry.{entered, entry, request}
 use Rattle.meaning.specs.Memory.{followBy, written, writeBy, memoryWrite}
@@ -26,10 +26,10 @@ pub fifteen-allowed : allOn fifteenDeep ≡ true
 fifteen-allowed = refl
 
 pub fifteen-reached : depth (after start fifteenDeep) ≡ 15
-unfolding eoiExitWord valueInBounds eventInBounds rootOnly allowed failingCheck openOffset memoryAccess writeFollowing ppr larger wordAt setWord storeAt isSet putVector highestBelow highest pprVirtualization evaluation evaluatedQuiet requestedPage requestedRecord selfIpiVirtualization entered entry request followBy written writeBy memoryWrite deliveredPage deliveredRecord delivery boundaryAt boundary refusalOf eventOut carriedOut stepBy step
+unfolding eoiExitWord valueInBounds eventInBounds rootOnly allowed failingCheck openOffset memoryAccess writeFollowing ppr larger wordAt setWord storeAt isSet putVector highestOf highest pprVirtualization evaluation evaluatedQuiet requestedPage requestedRecord selfIpiVirtualization entered entry request followBy written writeBy memoryWrite deliveredPage deliveredRecord delivery boundaryAt boundary refusalOf eventOut carriedOut stepBy step
 fifteen-reached = refl
 
 -- with delivery off at its entry a run ends in guest mode with RVI's class above VPPR's and nothing recognised
 pub premise-needed : Recognition (after start deliveryOff) → ⊥
-unfolding eoiExitWord valueInBounds eventInBounds rootOnly allowed failingCheck openOffset memoryAccess writeFollowing ppr larger wordAt setWord storeAt isSet putVector highestBelow highest pprVirtualization evaluation evaluatedQuiet requestedPage requestedRecord selfIpiVirtualization entered entry request followBy written writeBy memoryWrite deliveredPage deliveredRecord delivery boundaryAt boundary refusalOf eventOut carriedOut stepBy step
+unfolding eoiExitWord valueInBounds eventInBounds rootOnly allowed failingCheck openOffset memoryAccess writeFollowing ppr larger wordAt setWord storeAt isSet putVector highestOf highest pprVirtualization evaluation evaluatedQuiet requestedPage requestedRecord selfIpiVirtualization entered entry request followBy written writeBy memoryWrite deliveredPage deliveredRecord delivery boundaryAt boundary refusalOf eventOut carriedOut stepBy step
 premise-needed r = true≢false (sym (r .recognised))

@@ -25,6 +25,7 @@ fn controls_of(flags: u32) -> Controls {
     Controls {
         flags,
         threshold: 0,
+        notification: 0,
         eoi_exit_0: 0,
         eoi_exit_1: 0,
         eoi_exit_2: 0,

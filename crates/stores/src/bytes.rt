@@ -19,7 +19,7 @@ pub fn set_byte(page: &mut [u8], offset: u16, value: u8)
     set_byte_from(page, offset as usize, value);
 }
 
-fn set_half(page: &mut [u8], offset: u16, value: u16)
+pub fn set_half(page: &mut [u8], offset: u16, value: u16)
     ensures { λ _. ⌜ now (page .exit) ≡ setHalf (now (page .entry)) offset value ⌝ }
 {
     let at = offset as usize;

@@ -4,13 +4,13 @@ use Prim.Native.Nat.{ℕ, _*_, _≤_}
 use native.Mathlib.Omega.{arith}
 use mathlib.Core.Path.{_≡_, refl, _∙_, ap, subst, sym}
 use lib.Dec.{lit≤}
-use Rattle.registers.specs.Vectors.{highestBelow, highestSet, highestBit}
-use Rattle.registers.proofs.Highest.{bit-most, word-found, word-next, words-over}
+use Rattle.registers.specs.Vectors.{isSet, highestOf, highestBit}
+use Rattle.registers.proofs.Highest.{bit-most, word-found, word-next, words-over, register-bit}
 use Rattle.registers.proofs.vectors.highest_in.Statement.{statement}
 use Rattle.registers.proofs.vectors.highest_in.Tie as tie
 
 abbrev Inv-loop : tie.InvT-loop
-Inv-loop register left₀ left = (left ≤ 8) × (highestSet register 0 ≡ highestBelow register 0 (32 * left))
+Inv-loop register left₀ left = (left ≤ 8) × (highestOf (isSet register 0) 256 ≡ highestOf (isSet register 0) (32 * left))
 
 abbrev μ-loop : tie.MeasureT-loop
 μ-loop register left₀ left = left
@@ -29,7 +29,7 @@ returns : tie.Need-returns Inv-loop μ-loop
 returns c =
     let at-word-at = c .before .before in
     let at-loop = at-word-at .before .before in
-    word-found _ (at-loop .loop .left) (λ i. at-loop .before .shared-slice-known .given i .fits)
+    word-found _ _ (at-loop .loop .left) (register-bit _ (at-loop .loop .left) (λ i. at-loop .before .shared-slice-known .given i .fits))
     (at-word-at .before .loop-test .taken) (at-loop .loop .inv .0) (at-loop .loop .inv .1)
     (c .before .highest-bit .result) (c .before .highest-bit .ensures ∙ ap (λ w. highestBit w 32) (at-word-at .word-at .ensures)) (c .if1 .taken)
 
@@ -38,7 +38,7 @@ loop-again c =
     let at-word-at = c .before .before in
     let at-loop = at-word-at .before .before in (
       omega arith,
-      word-next _ (at-loop .loop .left) (λ i. at-loop .before .shared-slice-known .given i .fits)
+      word-next _ _ (at-loop .loop .left) (register-bit _ (at-loop .loop .left) (λ i. at-loop .before .shared-slice-known .given i .fits))
           (at-word-at .before .loop-test .taken) (at-loop .loop .inv .0) (at-loop .loop .inv .1)
           (c .before .highest-bit .result) (c .before .highest-bit .ensures ∙ ap (λ w. highestBit w 32) (at-word-at .word-at .ensures)) (c .if1 .left),
     )

@@ -30,16 +30,27 @@ returns-5 c =
     let at-if3 = at-if4 .before .before in
     let at-if2 = at-if3 .before .before in
     let at-if1 = at-if2 .before .before in
-    simp (← (at-if1 .before .check-1 .ensures), at-if1 .if1 .left, ← (at-if2 .before .check-2 .ensures), at-if2 .if2 .left, ← (at-if3 .before .check-3 .ensures), at-if3 .if3 .left, ← (at-if4 .before .check-4 .ensures), at-if4 .if4 .left, ← (c .before .check-6 .ensures), c .if5 .taken)
+    simp (← (at-if1 .before .check-1 .ensures), at-if1 .if1 .left, ← (at-if2 .before .check-2 .ensures), at-if2 .if2 .left, ← (at-if3 .before .check-3 .ensures), at-if3 .if3 .left, ← (at-if4 .before .check-4 .ensures), at-if4 .if4 .left, ← (c .before .check-5 .ensures), c .if5 .taken)
 
 returns-6 : tie.Need-returns-6
 unfolding failingCheck
 returns-6 c =
-    let at-if4 = c .before .before in
+    let at-if5 = c .before .before in
+    let at-if4 = at-if5 .before .before in
     let at-if3 = at-if4 .before .before in
     let at-if2 = at-if3 .before .before in
     let at-if1 = at-if2 .before .before in
-    simp (← (at-if1 .before .check-1 .ensures), at-if1 .if1 .left, ← (at-if2 .before .check-2 .ensures), at-if2 .if2 .left, ← (at-if3 .before .check-3 .ensures), at-if3 .if3 .left, ← (at-if4 .before .check-4 .ensures), at-if4 .if4 .left, ← (c .before .check-6 .ensures), c .if5 .left)
+    simp (← (at-if1 .before .check-1 .ensures), at-if1 .if1 .left, ← (at-if2 .before .check-2 .ensures), at-if2 .if2 .left, ← (at-if3 .before .check-3 .ensures), at-if3 .if3 .left, ← (at-if4 .before .check-4 .ensures), at-if4 .if4 .left, ← (at-if5 .before .check-5 .ensures), at-if5 .if5 .left, ← (c .before .check-6 .ensures), c .if6 .taken)
+
+returns-7 : tie.Need-returns-7
+unfolding failingCheck
+returns-7 c =
+    let at-if5 = c .before .before in
+    let at-if4 = at-if5 .before .before in
+    let at-if3 = at-if4 .before .before in
+    let at-if2 = at-if3 .before .before in
+    let at-if1 = at-if2 .before .before in
+    simp (← (at-if1 .before .check-1 .ensures), at-if1 .if1 .left, ← (at-if2 .before .check-2 .ensures), at-if2 .if2 .left, ← (at-if3 .before .check-3 .ensures), at-if3 .if3 .left, ← (at-if4 .before .check-4 .ensures), at-if4 .if4 .left, ← (at-if5 .before .check-5 .ensures), at-if5 .if5 .left, ← (c .before .check-6 .ensures), c .if6 .left)
 
 pub failing-check-spec : {M : Type 1} → statement M
 failing-check-spec =
@@ -55,4 +66,6 @@ failing-check-spec =
     returns-4
     (λ c κs. tt)
     returns-5
-    returns-6)
+    (λ c κs. tt)
+    returns-6
+    returns-7)
