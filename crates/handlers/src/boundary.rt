@@ -2,10 +2,10 @@
 ghost use mathlib.Core.Path.{_≡_};
 ghost use Rattle.meaning.specs.After.{Leaves};
 ghost use Rattle.meaning.specs.Boundary.{deliveredPage, delivery as deliveryOf, boundaryAt, boundary as boundaryOf};
-use crate::outcome::delivered;
-use crate::outcome::exit;
-use crate::outcome::quiet;
 use events::answer::Outcome;
+use procedures::outcome::delivered;
+use procedures::outcome::exit;
+use procedures::outcome::quiet;
 use processor::controls::INTERRUPT_WINDOW_EXITING;
 use processor::controls::Record;
 use processor::offsets::VIRR;

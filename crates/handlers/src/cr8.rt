@@ -1,16 +1,16 @@
 // CR8 both ways.
 ghost use Rattle.meaning.specs.After.{Leaves};
 ghost use Rattle.meaning.specs.Cr8Msr.{movToCr8, movFromCr8};
-use crate::outcome::exit;
-use crate::outcome::passthrough;
-use crate::outcome::redirected;
-use crate::procedures::tpr_virtualization;
 use events::answer::Outcome;
 use instructions::cr8::FROM_CR8;
 use instructions::cr8::TO_CR8;
 use instructions::cr8::cr8_access;
 use instructions::cr8::cr8_qualification;
 use page::bytes::byte_at;
+use procedures::outcome::exit;
+use procedures::outcome::passthrough;
+use procedures::outcome::redirected;
+use procedures::virtualization::tpr_virtualization;
 use processor::access::Access;
 use processor::controls::CR8_LOAD_EXITING;
 use processor::controls::CR8_STORE_EXITING;

@@ -1,13 +1,13 @@
 // Entry and request.
 ghost use Rattle.meaning.specs.After.{Leaves};
 ghost use Rattle.meaning.specs.Entry.{entered as enteredOf, entry as entryOf, request as requestOf};
-use crate::outcome::exit;
-use crate::outcome::quiet;
-use crate::procedures::evaluated_quiet;
-use crate::procedures::ppr_virtualization;
-use crate::procedures::requested;
 use events::answer::Outcome;
 use page::bytes::byte_at;
+use procedures::outcome::exit;
+use procedures::outcome::quiet;
+use procedures::virtualization::evaluated_quiet;
+use procedures::virtualization::ppr_virtualization;
+use procedures::virtualization::requested;
 use processor::controls::Controls;
 use processor::controls::Record;
 use processor::controls::VIRTUAL_DELIVERY;

@@ -4,5 +4,3 @@ pub mod cr8;
 pub mod entry;
 pub mod memory;
 pub mod msr;
-pub mod outcome;
-pub mod procedures;

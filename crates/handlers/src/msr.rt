@@ -1,20 +1,20 @@
 // RDMSR and WRMSR.
 ghost use Rattle.meaning.specs.After.{Leaves};
 ghost use Rattle.meaning.specs.Cr8Msr.{readMsr, writeMsrBy, writeMsr};
-use crate::outcome::exit;
-use crate::outcome::fault;
-use crate::outcome::passthrough;
-use crate::outcome::redirected;
-use crate::procedures::eoi_end;
-use crate::procedures::retired;
-use crate::procedures::self_ipi_virtualization;
-use crate::procedures::tpr_virtualization;
 use events::answer::Outcome;
 use instructions::msr::MsrWrite;
 use instructions::msr::msr_offset;
 use instructions::msr::rdmsr_redirected;
 use instructions::msr::wrmsr_of;
 use page::bytes::long_at;
+use procedures::outcome::exit;
+use procedures::outcome::fault;
+use procedures::outcome::passthrough;
+use procedures::outcome::redirected;
+use procedures::virtualization::eoi_end;
+use procedures::virtualization::retired;
+use procedures::virtualization::self_ipi_virtualization;
+use procedures::virtualization::tpr_virtualization;
 use processor::controls::Record;
 use stores::bytes::set_long;
 

@@ -1,7 +1,7 @@
--- `handlers::procedures::evaluated_quiet` meets its contract: code and definition take the same cases. Assumes nothing.
+-- `procedures::virtualization::evaluated_quiet` meets its contract: code and definition take the same cases. Assumes nothing.
 use Rattle.meaning.specs.Procedures.{evaluatedQuiet}
-use Rattle.handlers.proofs.procedures.evaluated_quiet.Statement.{statement}
-use Rattle.handlers.proofs.procedures.evaluated_quiet.Tie as tie
+use Rattle.procedures.proofs.virtualization.evaluated_quiet.Statement.{statement}
+use Rattle.procedures.proofs.virtualization.evaluated_quiet.Tie as tie
 
 returns : tie.Need-returns
 unfolding evaluatedQuiet

@@ -1,8 +1,8 @@
--- `handlers::procedures::retired` meets its contract: the bit is cleared, and the page then searched. Assumes nothing.
+-- `procedures::virtualization::retired` meets its contract: the bit is cleared, and the page then searched. Assumes nothing.
 use Rattle.registers.specs.Vectors.{highest}
 use borrow.Author.Needs.{needs}
-use Rattle.handlers.proofs.procedures.retired.Statement.{statement}
-use Rattle.handlers.proofs.procedures.retired.Tie as tie
+use Rattle.procedures.proofs.virtualization.retired.Statement.{statement}
+use Rattle.procedures.proofs.virtualization.retired.Tie as tie
 
 returns : tie.Need-returns
 unfolding highest

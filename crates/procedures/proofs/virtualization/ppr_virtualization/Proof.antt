@@ -1,8 +1,8 @@
--- `handlers::procedures::ppr_virtualization` meets its contract: code and definition take the same cases. Assumes nothing.
+-- `procedures::virtualization::ppr_virtualization` meets its contract: code and definition take the same cases. Assumes nothing.
 use Rattle.meaning.specs.Procedures.{pprVirtualization}
 use borrow.Author.Needs.{needs}
-use Rattle.handlers.proofs.procedures.ppr_virtualization.Statement.{statement}
-use Rattle.handlers.proofs.procedures.ppr_virtualization.Tie as tie
+use Rattle.procedures.proofs.virtualization.ppr_virtualization.Statement.{statement}
+use Rattle.procedures.proofs.virtualization.ppr_virtualization.Tie as tie
 
 returns : tie.Need-returns
 unfolding pprVirtualization

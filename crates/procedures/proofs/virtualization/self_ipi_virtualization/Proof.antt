@@ -1,8 +1,8 @@
--- `handlers::procedures::self_ipi_virtualization` meets its contract: code and definition take the same cases. Assumes nothing.
+-- `procedures::virtualization::self_ipi_virtualization` meets its contract: code and definition take the same cases. Assumes nothing.
 use Rattle.meaning.specs.Procedures.{selfIpiVirtualization, requestedPage}
 use borrow.Author.Needs.{needs}
-use Rattle.handlers.proofs.procedures.self_ipi_virtualization.Statement.{statement}
-use Rattle.handlers.proofs.procedures.self_ipi_virtualization.Tie as tie
+use Rattle.procedures.proofs.virtualization.self_ipi_virtualization.Statement.{statement}
+use Rattle.procedures.proofs.virtualization.self_ipi_virtualization.Tie as tie
 
 returns : tie.Need-returns
 unfolding selfIpiVirtualization requestedPage

@@ -1,8 +1,8 @@
--- `handlers::procedures::eoi_end` meets its contract: code and definition take the same cases. Assumes nothing.
+-- `procedures::virtualization::eoi_end` meets its contract: code and definition take the same cases. Assumes nothing.
 use Rattle.meaning.specs.Procedures.{eoiEnd}
 use borrow.Author.Needs.{needs}
-use Rattle.handlers.proofs.procedures.eoi_end.Statement.{statement}
-use Rattle.handlers.proofs.procedures.eoi_end.Tie as tie
+use Rattle.procedures.proofs.virtualization.eoi_end.Statement.{statement}
+use Rattle.procedures.proofs.virtualization.eoi_end.Tie as tie
 
 returns : tie.Need-returns
 unfolding eoiEnd

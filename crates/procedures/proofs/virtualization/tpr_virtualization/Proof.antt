@@ -1,8 +1,8 @@
--- `handlers::procedures::tpr_virtualization` meets its contract: code and definition take the same cases. Assumes nothing.
+-- `procedures::virtualization::tpr_virtualization` meets its contract: code and definition take the same cases. Assumes nothing.
 use Rattle.meaning.specs.Procedures.{tprVirtualization}
 use borrow.Author.Needs.{needs}
-use Rattle.handlers.proofs.procedures.tpr_virtualization.Statement.{statement}
-use Rattle.handlers.proofs.procedures.tpr_virtualization.Tie as tie
+use Rattle.procedures.proofs.virtualization.tpr_virtualization.Statement.{statement}
+use Rattle.procedures.proofs.virtualization.tpr_virtualization.Tie as tie
 
 returns : tie.Need-returns
 unfolding tprVirtualization

@@ -1,7 +1,7 @@
--- `handlers::procedures::evaluation` meets its contract: code and definition take the same cases. Assumes nothing.
+-- `procedures::virtualization::evaluation` meets its contract: code and definition take the same cases. Assumes nothing.
 use Rattle.meaning.specs.Procedures.{evaluation}
-use Rattle.handlers.proofs.procedures.evaluation.Statement.{statement}
-use Rattle.handlers.proofs.procedures.evaluation.Tie as tie
+use Rattle.procedures.proofs.virtualization.evaluation.Statement.{statement}
+use Rattle.procedures.proofs.virtualization.evaluation.Tie as tie
 
 returns : tie.Need-returns
 unfolding evaluation
