@@ -5,8 +5,9 @@
  *   the page is its virtual-APIC page, the 4,096 bytes that hold VTPR, VPPR, VISR, VIRR and the others;
  *   the record is what the processor itself holds, 48 bytes laid out as struct gg_record below.
  * A processor starts with a page of zeros and the record that gg_fresh writes.
- * gg_step carries out one event on the two and answers; gg_leave takes the guest out for a reason that
- * is no event of the model; gg_highest reads a page and tells its highest request or service.
+ * gg_step carries out one event on the two and answers; gg_external_interrupt carries out the one event that
+ * takes a third part, the descriptor into which others post while the guest runs; gg_leave takes the guest out
+ * for a reason that is no event of the model; gg_highest reads a page and tells its highest request or service.
  * The library keeps nothing from one call to the next.
  * Offsets, vectors, reasons and numbers are those of the project's build scope.
  */
@@ -30,13 +31,14 @@ GG_STATIC_ASSERT(__BYTE_ORDER__ == __ORDER_LITTLE_ENDIAN__, "the record and even
 
 /* The major number grows where a promise changes, the minor one where something is added. */
 #define GG_VERSION_MAJOR 2
-#define GG_VERSION_MINOR 0
+#define GG_VERSION_MINOR 1
 
 /* Lengths that the functions accept; any other length is refused. */
 enum {
     GG_PAGE_LENGTH = 4096,
     GG_RECORD_LENGTH = 48,
-    GG_EVENT_LENGTH = 48
+    GG_EVENT_LENGTH = 48,
+    GG_DESCRIPTOR_LENGTH = 64
 };
 
 /* Controls, as bits of gg_record.flags and of an entry's controls; all higher bits are 0. */
@@ -49,7 +51,9 @@ enum {
 #define GG_INTERRUPT_WINDOW_EXITING (UINT32_C(1) << 6)
 #define GG_CR8_LOAD_EXITING (UINT32_C(1) << 7)
 #define GG_CR8_STORE_EXITING (UINT32_C(1) << 8)
-#define GG_ALL_CONTROLS ((UINT32_C(1) << 9) - 1)
+#define GG_PROCESS_POSTED_INTERRUPTS (UINT32_C(1) << 9)
+#define GG_ACKNOWLEDGE_INTERRUPT_ON_EXIT (UINT32_C(1) << 10)
+#define GG_ALL_CONTROLS ((UINT32_C(1) << 11) - 1)
 
 /* gg_record.mode: which events are allowed depends on it. */
 enum {
@@ -57,7 +61,10 @@ enum {
     GG_GUEST = 1
 };
 
-/* gg_event.kind: entry and request belong to root mode, all others to the guest. */
+/*
+ * gg_event.kind: entry and request belong to root mode, all others to the guest. The external interrupt, the
+ * guest's too, has no kind: it takes a descriptor and is a function of its own, gg_external_interrupt.
+ */
 enum {
     GG_ENTRY = 1,
     GG_MEMORY_READ = 2,
@@ -95,11 +102,11 @@ enum {
     GG_WAIT_FOR_SIPI = 3
 };
 
-/* Answers: what gg_step and gg_leave return; the comment names what first and second hold. */
+/* Answers: what all but gg_fresh and gg_highest return; the comment names what first and second hold. */
 enum {
     GG_REFUSED = 0,     /* refusal, failing entry check (0 but for refusal 4) */
     GG_REDIRECTED = 1,  /* value read */
-    GG_PASSTHROUGH = 2, /* the model has no part in the access: the core does it */
+    GG_PASSTHROUGH = 2, /* the model has no part in the access or interrupt: the core does it */
     GG_FAULT = 3,       /* general-protection fault */
     GG_VM_EXIT = 4,     /* reason, qualification */
     GG_DELIVERED = 5,   /* vector */
@@ -113,28 +120,31 @@ enum {
     GG_HIGHEST_NONE = 2     /* no bit is set */
 };
 
-/* Refusals, in the order in which they are tested; none changes page or record. */
+/* Refusals, in the order in which they are tested; none changes page, record or descriptor. */
 enum {
     GG_REFUSED_PAGE_LENGTH = 1,
+    GG_REFUSED_DESCRIPTOR_LENGTH = 5, /* of gg_external_interrupt alone */
     GG_REFUSED_BOUNDS = 2,
     GG_REFUSED_MODE = 3,
     GG_REFUSED_ENTRY_CHECK = 4
 };
 
 /*
- * Entry checks, in the order in which they are tested; the number 5 is kept for a later one. Check 6 alone reads
- * the page: with APIC accesses virtualised, what it looks for is GG_EXIT_TPR_BELOW_THRESHOLD instead.
+ * Entry checks, in the order in which they are tested. Check 6 alone reads the page: with APIC accesses
+ * virtualised, what it looks for is GG_EXIT_TPR_BELOW_THRESHOLD instead.
  */
 enum {
     GG_CHECK_TPR_SHADOW_OFF = 1,      /* x2APIC mode, registers or VID without the shadow */
     GG_CHECK_BOTH_APIC_MODES = 2,     /* APIC accesses together with x2APIC mode */
     GG_CHECK_EXTERNAL_INTERRUPTS = 3, /* VID without external-interrupt exiting */
     GG_CHECK_TPR_THRESHOLD = 4,       /* shadow without VID and a threshold above 15 */
+    GG_CHECK_POSTED_INTERRUPTS = 5,   /* posting without VID, without acknowledge, or with a vector above 255 */
     GG_CHECK_TPR_BELOW_THRESHOLD = 6  /* shadow, neither VID nor APIC accesses, a threshold above VTPR's class */
 };
 
 /* Basic exit reasons: before the instruction, nothing of it is done; after it, its write stays. */
 enum {
+    GG_EXIT_EXTERNAL_INTERRUPT = 1,   /* between instructions */
     GG_EXIT_INTERRUPT_WINDOW = 7,     /* at the boundary */
     GG_EXIT_CONTROL_REGISTER = 28,    /* before the instruction */
     GG_EXIT_TPR_BELOW_THRESHOLD = 43, /* after it; at an entry with APIC accesses, before any instruction */
@@ -167,17 +177,18 @@ enum {
 
 /*
  * The processor record, laid over its 48 bytes. Out of bounds are a mode or a recognised above 1, a flag
- * above bit 8 and a reserved byte other than 0; every other record is taken, reachable or not.
+ * above bit 10 and a reserved byte other than 0; every other record is taken, reachable or not.
  */
 struct gg_record {
-    uint8_t mode;             /* GG_ROOT or GG_GUEST */
-    uint8_t rvi;              /* requesting virtual interrupt */
-    uint8_t svi;              /* servicing virtual interrupt */
-    uint8_t recognised;       /* 1 while a virtual interrupt is recognised, else 0 */
-    uint32_t threshold;       /* TPR threshold: all of it at an entry, bits 3:0 at a TPR write */
-    uint32_t flags;           /* controls in force */
-    uint8_t reserved_zero[4]; /* kept for a notification vector (12, 13) and two summaries (14, 15) */
-    uint64_t eoi_exit[4];     /* vector v at word v / 64, bit v mod 64 */
+    uint8_t mode;                 /* GG_ROOT or GG_GUEST */
+    uint8_t rvi;                  /* requesting virtual interrupt */
+    uint8_t svi;                  /* servicing virtual interrupt */
+    uint8_t recognised;           /* 1 while a virtual interrupt is recognised, else 0 */
+    uint32_t threshold;           /* TPR threshold: all of it at an entry, bits 3:0 at a TPR write */
+    uint32_t flags;               /* controls in force */
+    uint16_t notification_vector; /* the vector at which posted requests are processed */
+    uint8_t reserved_zero[2];     /* kept for two summaries */
+    uint64_t eoi_exit[4];         /* vector v at word v / 64, bit v mod 64 */
 };
 
 GG_STATIC_ASSERT(sizeof(struct gg_record) == GG_RECORD_LENGTH, "record length");
@@ -187,17 +198,21 @@ GG_AT(2, gg_record, svi);
 GG_AT(3, gg_record, recognised);
 GG_AT(4, gg_record, threshold);
 GG_AT(8, gg_record, flags);
-GG_AT(12, gg_record, reserved_zero);
+GG_AT(12, gg_record, notification_vector);
+GG_AT(14, gg_record, reserved_zero);
 GG_AT(16, gg_record, eoi_exit);
 
-/* One event, laid over its 48 bytes; a field that the kind does not name is ignored. */
+/*
+ * One event, laid over its 48 bytes; a field that the kind does not name is ignored. An entry's value is bytes 8
+ * to 15 of the record: controls in bits 31:0, notification vector in bits 47:32, above them 0.
+ */
 struct gg_event {
     uint8_t kind;         /* GG_ENTRY to GG_REQUEST */
     uint8_t size;         /* memory: 1, 2, 4 or 8 */
     uint8_t flags;        /* memory: fetch, already virtualised; boundary: IF, blocking */
     uint8_t detail;       /* CR8: register 0 to 15; boundary: activity 0 to 3 */
     uint32_t number;      /* memory: offset 0 to 4095; MSR: index; request: vector 0 to 255; entry: threshold */
-    uint64_t value;       /* memory write, to CR8 (0 to 15), WRMSR; entry: controls in bits 31:0, above them 0 */
+    uint64_t value;       /* memory write, to CR8 (0 to 15), WRMSR; entry: controls and notification vector */
     uint64_t eoi_exit[4]; /* entry: as in the record */
 };
 
@@ -237,6 +252,39 @@ uint32_t gg_step(uint8_t *page, size_t page_len, uint8_t *record, size_t record_
                  const uint8_t *event, size_t event_len, uint64_t *first, uint64_t *second);
 
 /*
+ * An external interrupt with a vector 0 to 255 arrives while the guest runs. It alone takes the descriptor, 64
+ * bytes into which devices and other processors post:
+ *   bytes 0 to 31 are the posted requests, vector v at byte v / 8, bit v mod 8;
+ *   bit 0 of byte 32 is the outstanding notification; bits 7:1 of it and bytes 33 to 63 never change.
+ * It returns one of four answers, with its two numbers in first and second, 0 where it names none:
+ *   GG_PASSTHROUGH, external-interrupt exiting is off: nothing changes, and the guest's own IDT gets the vector;
+ *   GG_VM_EXIT, reason GG_EXIT_EXTERNAL_INTERRUPT and qualification 0, posting is off or the vector isn't the
+ *     notification vector, all 16 bits compared: the record gets root mode and recognition off, page and
+ *     descriptor stay;
+ *   GG_QUIET, posted requests are processed: the outstanding bit is cleared, posted bits join VIRR and are
+ *     cleared, RVI becomes the larger of itself and the highest posted vector (unchanged if none), evaluation;
+ *   GG_REFUSED, with the refusal in first.
+ * Neither VID nor the outstanding bit is looked at: a notification with nothing posted is processed too.
+ * Refusals are tested in this order, and each leaves every byte of page, record and descriptor:
+ *   1, the page isn't 4,096 bytes long; 5, the descriptor isn't 64 bytes long; 2, the record isn't 48 bytes
+ *   long or has a field out of bounds, or the vector is above 255; 3, the record is in root mode.
+ * A null page, record or descriptor with length 0 is refused as any wrong length is; with another length,
+ * each points to that many bytes, at any address. first and second are never null. Nothing overlaps.
+ *
+ * Others post into a shared descriptor at any time, and the call is no atomic operation on it. The caller makes
+ * sure that nobody writes it during the call, or hands in a copy and merges:
+ *   the copy starts as 64 zero bytes; an atomic AND with FEH takes the outstanding bit out of byte 32, then an
+ *   atomic exchange with 0 takes the 32 request bytes, word by word; what was taken is put into the copy;
+ *   after GG_QUIET nothing is left to do: what was taken is processed;
+ *   after any other answer an atomic OR puts the taken requests back, then the outstanding bit if it was taken.
+ * The outstanding bit is the first out and the last back, and the notification is acknowledged before: a vector
+ * posted in between is then taken with the others, or still there under a new notification.
+ */
+uint32_t gg_external_interrupt(uint8_t *page, size_t page_len, uint8_t *record, size_t record_len,
+                               uint8_t *descriptor, size_t descriptor_len, uint32_t vector,
+                               uint64_t *first, uint64_t *second);
+
+/*
  * The guest leaves for a reason outside the model, such as CPUID, HLT exiting or an EPT violation: the record
  * gets root mode and recognition off, nothing else of it changes, and the answer is GG_QUIET.
  * No page is handed over, since none changes; an entry event takes the guest back in.
@@ -274,7 +322,7 @@ static inline struct gg_event gg_event_of(uint8_t kind)
     return event;
 }
 
-/* VM entry with its controls; eoi_exit is four words, or null for no EOI-exit bit. */
+/* VM entry with its controls and notification vector 0; eoi_exit is four words, or null for no EOI-exit bit. */
 static inline struct gg_event gg_entry(uint32_t controls, uint32_t threshold, const uint64_t *eoi_exit)
 {
     struct gg_event event = gg_event_of(GG_ENTRY);
@@ -282,6 +330,15 @@ static inline struct gg_event gg_entry(uint32_t controls, uint32_t threshold, co
     event.value = controls;
     for (int word = 0; eoi_exit && word < 4; word++)
         event.eoi_exit[word] = eoi_exit[word];
+    return event;
+}
+
+/* VM entry with a notification vector too, as an entry with posting on needs it. */
+static inline struct gg_event gg_entry_notified(uint32_t controls, uint32_t threshold, const uint64_t *eoi_exit,
+                                                uint16_t notification_vector)
+{
+    struct gg_event event = gg_entry(controls, threshold, eoi_exit);
+    event.value |= (uint64_t)notification_vector << 32;
     return event;
 }
 
@@ -367,6 +424,19 @@ static inline struct gg_answer gg_run(uint8_t *page, size_t page_len, struct gg_
     return answer;
 }
 
+/* gg_external_interrupt on a record that isn't null, with the answer and its numbers in one value. */
+static inline struct gg_answer gg_run_external_interrupt(uint8_t *page, size_t page_len,
+                                                         struct gg_record *record, uint8_t *descriptor,
+                                                         size_t descriptor_len, uint32_t vector)
+{
+    struct gg_answer answer;
+    answer.first = 0;
+    answer.second = 0;
+    answer.number = gg_external_interrupt(page, page_len, (uint8_t *)record, sizeof *record, descriptor,
+                                          descriptor_len, vector, &answer.first, &answer.second);
+    return answer;
+}
+
 /* gg_leave on a record that isn't null, with the answer and its numbers in one value. */
 static inline struct gg_answer gg_run_leave(struct gg_record *record)
 {
@@ -398,6 +468,19 @@ static inline int gg_boundary_matters(const struct gg_record *record, uint8_t fl
     int blocking = flags & (GG_BLOCKING_BY_STI | GG_BLOCKING_BY_MOV_SS);
     int open = (flags & GG_IF) && !blocking && (activity == GG_ACTIVE || activity == GG_HLT);
     return open && ((record->flags & GG_INTERRUPT_WINDOW_EXITING) || record->recognised);
+}
+
+/*
+ * Posts a vector into a descriptor of 64 bytes: sets its request bit, then the outstanding bit. It returns 1
+ * where the outstanding bit was 0 before: the poster then sends the notification. Else it returns 0: one is
+ * under way already. It isn't atomic either: it is for a caller that has the descriptor to itself.
+ */
+static inline int gg_post(uint8_t *descriptor, uint8_t vector)
+{
+    descriptor[vector / 8] = (uint8_t)(descriptor[vector / 8] | 1u << vector % 8);
+    int notify = !(descriptor[32] & 1);
+    descriptor[32] = (uint8_t)(descriptor[32] | 1u);
+    return notify;
 }
 
 /* A 32-bit register of a page, read as gg_step reads it; the offset is at most FFCH. */

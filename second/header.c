@@ -1,11 +1,22 @@
 /* Holds the header to C11 and C++11, compiled once as each: every function is used, nothing is linked. */
 #include "garlandgrid.h"
 
-#if GG_VERSION_MAJOR != 2 || GG_VERSION_MINOR != 0
-#error "the checks of this folder are those of version 2.0"
+#if GG_VERSION_MAJOR != 2 || GG_VERSION_MINOR != 1
+#error "the checks of this folder are those of version 2.1"
 #endif
 
+/* The numbers of posted interrupts are those of document 02. */
+GG_STATIC_ASSERT(GG_PROCESS_POSTED_INTERRUPTS == 0x200, "process posted interrupts is bit 9");
+GG_STATIC_ASSERT(GG_ACKNOWLEDGE_INTERRUPT_ON_EXIT == 0x400, "acknowledge interrupt on exit is bit 10");
+GG_STATIC_ASSERT(GG_ALL_CONTROLS == 0x7FF, "the controls are bits 0 to 10");
+GG_STATIC_ASSERT(GG_DESCRIPTOR_LENGTH == 64, "the descriptor is 64 bytes long");
+GG_STATIC_ASSERT(GG_REFUSED_DESCRIPTOR_LENGTH == 5, "another length is refusal 5");
+GG_STATIC_ASSERT(GG_CHECK_POSTED_INTERRUPTS == 5, "posting has check 5");
+GG_STATIC_ASSERT(GG_EXIT_EXTERNAL_INTERRUPT == 1, "an external interrupt is exit 1");
+GG_STATIC_ASSERT(sizeof((struct gg_record *)0)->notification_vector == 2, "the notification vector has 16 bits");
+
 struct gg_answer header(uint8_t *page, struct gg_record *record, uint32_t choice);
+struct gg_answer posting(uint8_t *page, struct gg_record *record, uint8_t *descriptor);
 
 struct gg_answer header(uint8_t *page, struct gg_record *record, uint32_t choice)
 {
@@ -13,6 +24,7 @@ struct gg_answer header(uint8_t *page, struct gg_record *record, uint32_t choice
     const struct gg_event events[] = {
         gg_entry(GG_USE_TPR_SHADOW | GG_CR8_STORE_EXITING, 15, exits),
         gg_entry(GG_ALL_CONTROLS, 0, NULL),
+        gg_entry_notified(GG_ALL_CONTROLS, 0, exits, 0xF2),
         gg_request(255),
         gg_memory_read(GG_VTPR, 4, GG_INSTRUCTION_FETCH),
         gg_memory_write(GG_VICR_LO, 4, 0x40071, GG_ALREADY_VIRTUALISED),
@@ -32,4 +44,18 @@ struct gg_answer header(uint8_t *page, struct gg_record *record, uint32_t choice
     if (record->mode == GG_GUEST && !gg_boundary_matters(record, GG_IF, GG_ACTIVE))
         return gg_run_leave(record);
     return gg_run(page, GG_PAGE_LENGTH, record, &events[choice % (sizeof events / sizeof events[0])]);
+}
+
+struct gg_answer posting(uint8_t *page, struct gg_record *record, uint8_t *descriptor)
+{
+    struct gg_answer answer = gg_run_external_interrupt(page, GG_PAGE_LENGTH, record, descriptor,
+                                                        GG_DESCRIPTOR_LENGTH, record->notification_vector);
+    if (answer.number == GG_REFUSED && answer.first == GG_REFUSED_DESCRIPTOR_LENGTH)
+        return answer;
+    if (answer.number == GG_VM_EXIT && answer.first == GG_EXIT_EXTERNAL_INTERRUPT)
+        return answer;
+    if (gg_post(descriptor, 0x71))
+        answer.number = gg_external_interrupt(page, GG_PAGE_LENGTH, (uint8_t *)record, sizeof *record, descriptor,
+                                              GG_DESCRIPTOR_LENGTH, 0xF2, &answer.first, &answer.second);
+    return answer;
 }
