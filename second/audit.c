@@ -1,4 +1,4 @@
-/* Condition 3: what holds after any sequence of events that always enters with VID. */
+/* Condition 3: what holds after any sequence of events that always enters with VID; postings are requests. */
 #include "audit.h"
 
 enum { DEEPEST = 15 };
@@ -57,9 +57,25 @@ static const char *record_holds(const struct trial *t)
     return NULL;
 }
 
-const char *audit_step(struct audit *audit, const struct side *side)
+/* Posted vectors count as requests: once processed they are in VIRR, and none is left in the descriptor. */
+static const char *posted_bits(const struct trial *before, const struct side *side)
+{
+    bool same = true;
+    if (trial_kind(before) != KIND_EXTERNAL || side->answer.number != GG_QUIET)
+        return NULL;
+    for (unsigned vector = 0; vector < 256; vector++) {
+        bool requested = gg_vector_is_set(trial_page_of(&side->trial), GG_VIRR, (uint8_t)vector);
+        if (trial_is_posted(&side->trial, vector) || (trial_is_posted(before, vector) && !requested))
+            same = false;
+    }
+    return same ? NULL : "the vectors posted become requests";
+}
+
+const char *audit_step(struct audit *audit, const struct trial *before, const struct side *side)
 {
     const char *broken = follow(audit, &side->trial, &side->answer);
+    if (!broken)
+        broken = posted_bits(before, side);
     if (!broken)
         broken = service_bits(audit, &side->trial);
     return broken ? broken : record_holds(&side->trial);

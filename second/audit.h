@@ -11,6 +11,6 @@ struct audit {
 };
 
 /* Follows one step; returns the sentence that it breaks, or null. */
-const char *audit_step(struct audit *audit, const struct side *side);
+const char *audit_step(struct audit *audit, const struct trial *before, const struct side *side);
 
 #endif

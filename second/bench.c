@@ -14,16 +14,22 @@ enum { RUNNERS = 5, TRIES = 5 };
 typedef uint32_t bytes_function(uint8_t *, size_t, uint8_t *, size_t, const uint8_t *, size_t, uint64_t *,
                                 uint64_t *);
 typedef struct outcome fields_function(struct cpu *, uint8_t *, size_t, const struct happening *);
+typedef uint32_t bytes_posting(uint8_t *, size_t, uint8_t *, size_t, uint8_t *, size_t, uint32_t, uint64_t *,
+                               uint64_t *);
+typedef struct outcome fields_posting(struct cpu *, uint8_t *, size_t, uint8_t *, size_t, uint32_t);
 
-/* The second program with a register's words searched instead of its bits. */
+/* The second program with a register's words searched, and posted words taken, instead of bits. */
 bytes_function second_step_words;
 fields_function oracle_step_words;
+bytes_posting second_external_interrupt_words;
+fields_posting oracle_external_interrupt_words;
 
 /* A workload with room for its running state, in bytes and in the second program's fields. */
 struct bench {
     struct workload work;
     struct gg_record record;
     uint8_t page[GG_PAGE_LENGTH];
+    uint8_t descriptor[GG_DESCRIPTOR_LENGTH];
     struct cpu cpu;
     struct happening happenings[MOST_EVENTS];
     uint64_t sum; /* of every number answered */
@@ -73,9 +79,35 @@ static void run_fields(struct bench *b, uint64_t rounds, fields_function *step)
     b->sum += sum;
 }
 
+/* The sum has RVI too, since every posting is quiet. */
+static void post_bytes(struct bench *b, uint64_t rounds, bytes_posting *interrupt)
+{
+    uint64_t first, second, sum = 0;
+    uint8_t *record = (uint8_t *)&b->record;
+    for (; rounds > 0; rounds--) {
+        memcpy(b->descriptor, b->work.descriptor, sizeof b->descriptor);
+        sum += interrupt(b->page, sizeof b->page, record, sizeof b->record, b->descriptor,
+                         sizeof b->descriptor, b->work.record.notification_vector, &first, &second);
+        sum += first + second;
+    }
+    b->sum += sum + b->record.rvi;
+}
+
+static void post_fields(struct bench *b, uint64_t rounds, fields_posting *interrupt)
+{
+    uint64_t sum = 0;
+    for (; rounds > 0; rounds--) {
+        memcpy(b->descriptor, b->work.descriptor, sizeof b->descriptor);
+        struct outcome outcome = interrupt(&b->cpu, b->page, sizeof b->page, b->descriptor,
+                                           sizeof b->descriptor, b->work.record.notification_vector);
+        sum += outcome.answer + outcome.first + outcome.second;
+    }
+    b->sum += sum + b->cpu.rvi;
+}
+
 static const char *const runner_names[RUNNERS] = {"model", "bytes", "bytes-words", "bits", "words"};
 
-static void run(struct bench *b, unsigned runner, uint64_t rounds)
+static void run_events(struct bench *b, unsigned runner, uint64_t rounds)
 {
     switch (runner) {
     case 0:
@@ -93,6 +125,34 @@ static void run(struct bench *b, unsigned runner, uint64_t rounds)
     default:
         run_fields(b, rounds, oracle_step_words);
     }
+}
+
+static void run_postings(struct bench *b, unsigned runner, uint64_t rounds)
+{
+    switch (runner) {
+    case 0:
+        post_bytes(b, rounds, gg_external_interrupt);
+        break;
+    case 1:
+        post_bytes(b, rounds, second_external_interrupt);
+        break;
+    case 2:
+        post_bytes(b, rounds, second_external_interrupt_words);
+        break;
+    case 3:
+        post_fields(b, rounds, oracle_external_interrupt);
+        break;
+    default:
+        post_fields(b, rounds, oracle_external_interrupt_words);
+    }
+}
+
+static void run(struct bench *b, unsigned runner, uint64_t rounds)
+{
+    if (b->work.posts)
+        run_postings(b, runner, rounds);
+    else
+        run_events(b, runner, rounds);
 }
 
 static double now_ns(void)

@@ -17,10 +17,19 @@ static bool memory_in_bounds(const struct happening *e)
     return e->kind == READ || (!(e->flags & FETCH) && fits(e->value, e->size));
 }
 
-/* An entry's controls have 32 bits, and the four bytes above them are reserved. */
+/* Where the flags are held in a number, its other bits must be 0. */
+static bool flags_in_bounds(uint32_t flags)
+{
+    return flags >> (FAULT(BOUNDS_FLAGS) ? CONTROLS + 1 : CONTROLS) == 0;
+}
+
+/* An entry's controls have 32 bits, the notification vector above them 16, and two bytes are reserved. */
 static bool controls_in_bounds(uint64_t value)
 {
-    return (uint32_t)value >> CONTROLS == 0 && (value >> 32 == 0 || FAULT(ENTRY_RESERVED));
+    bool reserved = value >> 48 == 0 || FAULT(ENTRY_RESERVED);
+    if (FAULT(BOUNDS_ENTRY) && (value >> 32 & 0xFFFF) > 255)
+        return false;
+    return flags_in_bounds((uint32_t)value) && reserved;
 }
 
 /* Whether every field that the event's kind names lies in its bounds. */
@@ -51,7 +60,9 @@ static bool event_in_bounds(const struct happening *e)
 static bool record_in_bounds(const struct cpu *cpu)
 {
     bool reserved = cpu->reserved == 0 || FAULT(RECORD_RESERVED);
-    return cpu->mode <= 1 && cpu->recognised <= 1 && cpu->controls >> CONTROLS == 0 && reserved;
+    if (FAULT(BOUNDS_RECORD) && cpu->notification > 255)
+        return false;
+    return cpu->mode <= 1 && cpu->recognised <= 1 && flags_in_bounds(cpu->controls) && reserved;
 }
 
 unsigned bounds_refusal(const struct cpu *cpu, size_t page_len, const struct happening *e)
@@ -67,6 +78,29 @@ unsigned bounds_refusal(const struct cpu *cpu, size_t page_len, const struct hap
     if (!bounds)
         return 2;
     return cpu->mode != needed ? 3 : 0;
+}
+
+/* Refusals 2 and 3 of an external interrupt: its vector and the record, then the mode. */
+static unsigned external_bounds(const struct cpu *cpu, uint32_t vector)
+{
+    if (!record_in_bounds(cpu) || (vector > 255 && !FAULT(BOUNDS_EXTERNAL)))
+        return 2;
+    return cpu->mode == 1 || FAULT(EXTERNAL_IN_ROOT) ? 0 : 3;
+}
+
+unsigned bounds_external_refusal(const struct cpu *cpu, size_t page_len, size_t descriptor_len,
+                                 uint32_t vector)
+{
+    bool longer = descriptor_len > DESCRIPTOR && FAULT(DESCRIPTOR_LONGER);
+    bool right = descriptor_len == DESCRIPTOR || longer;
+    unsigned later = external_bounds(cpu, vector);
+    if (FAULT(DESCRIPTOR_FIRST) && !right)
+        return 5;
+    if (page_len != PAGE)
+        return 1;
+    if (FAULT(DESCRIPTOR_LAST) && later)
+        return later;
+    return right ? later : 5;
 }
 
 unsigned bounds_leave_refusal(const struct cpu *cpu)

@@ -47,15 +47,15 @@ build_header_cpp() {
 # build_compare ARCHIVE
 build_compare() {
     need_archive "$1" &&
-        $CC $flags $(sources oracle bounds open edge faults trial generate junk sweep question session audit \
-            show tally stage named null matters compare) "$1" -o "$out/compare"
+        $CC $flags $(sources oracle bounds open edge faults trial generate junk sweep question posting session \
+            audit show tally stage named named_posting null matters compare) "$1" -o "$out/compare"
 }
 
 # The second program's rules and boundary once more, searching by words, each function under a name of its own.
 build_words() {
     renamed=
-    for function_name in oracle_step oracle_leave oracle_highest edge_cpu edge_happening \
-        second_step second_leave second_highest second_fresh; do
+    for function_name in oracle_step oracle_external_interrupt oracle_leave oracle_highest edge_cpu \
+        edge_happening second_step second_external_interrupt second_leave second_highest second_fresh; do
         renamed="$renamed -D$function_name=${function_name}_words"
     done
     for source_name in oracle edge; do

@@ -4,6 +4,7 @@
 #include "matters.h"
 #include "named.h"
 #include "null.h"
+#include "posting.h"
 #include "question.h"
 #include "session.h"
 #include "show.h"
@@ -16,9 +17,10 @@
 #include <string.h>
 
 enum { OK = 0, DIFFERS = 1, USAGE = 2 };
-enum { SINGLE, JUNK, SESSION, HIGHEST, FIRST_SWEEP };
+enum { SINGLE, JUNK, SESSION, HIGHEST, POSTING, FIRST_SWEEP };
 enum { GATE_SINGLE = 200000, GATE_JUNK = 100000, GATE_SESSION = 200000, GATE_HIGHEST = 100000 };
 enum { LONG_TOTAL = 10000000, LONG_SINGLE = 3000000, LONG_JUNK = 1000000, LONG_HIGHEST = 1000000 };
+enum { GATE_POSTING = 100000, LONG_POSTING = 500000 };
 
 static struct tally tally;
 static struct pair pair;
@@ -28,9 +30,9 @@ static void help(FILE *to)
 {
     fputs("usage: compare [--seed N] [--fault NAME] COMMAND\n"
           "Runs the proved model and an independent second program on the same steps and\n"
-          "compares answer, record and page after every step, be it an event, a leave or the\n"
-          "question for the highest vector of VIRR or VISR.\n\n"
-          "  gate              every sweep, random steps, questions, junk and sessions; the short run\n"
+          "compares answer, record, page and descriptor after every step, be it an event, an\n"
+          "external interrupt, a leave or the question for the highest vector of VIRR or VISR.\n\n"
+          "  gate              sweeps, random steps, postings, questions, junk, sessions; the short run\n"
           "  long              ten million steps, with a table of what they exercise\n"
           "  named             the named bench cases\n"
           "  null              null pointers with length 0\n"
@@ -45,7 +47,7 @@ static void help(FILE *to)
 
 static const char *family_name(unsigned family)
 {
-    static const char *const names[] = {"single", "junk", "session", "highest"};
+    static const char *const names[] = {"single", "junk", "session", "highest", "posting"};
     return family < FIRST_SWEEP ? names[family] : sweeps[family - FIRST_SWEEP].name;
 }
 
@@ -59,6 +61,8 @@ static void make_case(unsigned family, uint64_t index, struct trial *t)
         generate_junk(&r, t);
     else if (family == HIGHEST)
         question_any(&r, t);
+    else if (family == POSTING)
+        posting_any(&r, t);
     else
         sweeps[family - FIRST_SWEEP].make(&r, index, t);
 }
@@ -143,7 +147,7 @@ static bool run_sweeps(void)
 static int gate(void)
 {
     if (!run_cases(SINGLE, GATE_SINGLE) || !run_cases(JUNK, GATE_JUNK) || !run_cases(HIGHEST, GATE_HIGHEST) ||
-        !run_sessions(GATE_SESSION) || !run_sweeps())
+        !run_cases(POSTING, GATE_POSTING) || !run_sessions(GATE_SESSION) || !run_sweeps())
         return DIFFERS;
     printf("gate: %" PRIu64 " steps, no difference (seed %" PRIu64 ")\n", tally.steps, seed);
     return OK;
@@ -152,7 +156,8 @@ static int gate(void)
 static int long_run(void)
 {
     if (!run_sweeps() || !run_cases(SINGLE, LONG_SINGLE) || !run_cases(JUNK, LONG_JUNK) ||
-        !run_cases(HIGHEST, LONG_HIGHEST) || !run_sessions(LONG_TOTAL - tally.steps))
+        !run_cases(HIGHEST, LONG_HIGHEST) || !run_cases(POSTING, LONG_POSTING) ||
+        !run_sessions(LONG_TOTAL - tally.steps))
         return DIFFERS;
     tally_print(&tally);
     unsigned missing = tally_missing(&tally);

@@ -6,7 +6,8 @@
 
 #include <string.h>
 
-enum { LENGTH = 48, AT_THRESHOLD = 4, AT_CONTROLS = 8, AT_RESERVED = 12, AT_EXITS = 16, EXITS = 32 };
+enum { LENGTH = 48, AT_THRESHOLD = 4, AT_CONTROLS = 8, AT_NOTIFICATION = 12, AT_RESERVED = 14 };
+enum { AT_EXITS = 16, EXITS = 32 };
 enum { AT_NUMBER = 4, AT_VALUE = 8 };
 
 static uint64_t long_at(const uint8_t *from)
@@ -25,7 +26,8 @@ struct cpu edge_cpu(const uint8_t *record, size_t record_len)
     cpu.recognised = record[3];
     cpu.threshold = load_word(record + AT_THRESHOLD);
     cpu.controls = load_word(record + AT_CONTROLS);
-    cpu.reserved = load_word(record + AT_RESERVED);
+    cpu.notification = load_half(record + AT_NOTIFICATION);
+    cpu.reserved = load_half(record + AT_RESERVED);
     memcpy(cpu.eoi_exit, record + AT_EXITS, EXITS);
     return cpu;
 }
@@ -54,6 +56,7 @@ static void put_cpu(uint8_t *record, const struct cpu *cpu)
     record[3] = (uint8_t)cpu->recognised;
     store_word(record + AT_THRESHOLD, cpu->threshold);
     store_word(record + AT_CONTROLS, cpu->controls);
+    store_half(record + AT_NOTIFICATION, cpu->notification);
     memcpy(record + AT_EXITS, cpu->eoi_exit, EXITS);
 }
 
@@ -80,6 +83,16 @@ uint32_t second_step(uint8_t *page, size_t page_len, uint8_t *record, size_t rec
     struct cpu cpu = edge_cpu(record, record_len);
     struct happening happening = edge_happening(event, event_len);
     struct outcome outcome = oracle_step(&cpu, page, page_len, &happening);
+    return hand_over(outcome, &cpu, record, first, second);
+}
+
+uint32_t second_external_interrupt(uint8_t *page, size_t page_len, uint8_t *record, size_t record_len,
+                                   uint8_t *descriptor, size_t descriptor_len, uint32_t vector,
+                                   uint64_t *first, uint64_t *second)
+{
+    struct cpu cpu = edge_cpu(record, record_len);
+    struct outcome outcome =
+        oracle_external_interrupt(&cpu, page, page_len, descriptor, descriptor_len, vector);
     return hand_over(outcome, &cpu, record, first, second);
 }
 

@@ -12,6 +12,11 @@ struct happening edge_happening(const uint8_t *event, size_t event_len);
 uint32_t second_step(uint8_t *page, size_t page_len, uint8_t *record, size_t record_len,
                      const uint8_t *event, size_t event_len, uint64_t *first, uint64_t *second);
 
+/* Same contract as gg_external_interrupt. */
+uint32_t second_external_interrupt(uint8_t *page, size_t page_len, uint8_t *record, size_t record_len,
+                                   uint8_t *descriptor, size_t descriptor_len, uint32_t vector,
+                                   uint64_t *first, uint64_t *second);
+
 /* Same contract as gg_leave. */
 uint32_t second_leave(uint8_t *record, size_t record_len, uint64_t *first, uint64_t *second);
 

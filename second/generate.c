@@ -4,6 +4,8 @@
  */
 #include "generate.h"
 
+#include "posting.h"
+
 #include <string.h>
 
 static const uint32_t usual_controls[] = {
@@ -16,6 +18,8 @@ static const uint32_t usual_controls[] = {
     CONTROLS_R,
     CONTROLS_X2,
     CONTROLS_X2 | GG_APIC_REGISTER_VIRTUALIZATION,
+    CONTROLS_V | CONTROLS_POSTING,
+    CONTROLS_R | CONTROLS_POSTING,
 };
 
 enum { USUAL = sizeof usual_controls / sizeof usual_controls[0] };
@@ -46,6 +50,14 @@ static uint32_t any_threshold(struct random *r)
     }
 }
 
+uint16_t generate_notification(struct random *r)
+{
+    uint32_t bits = (uint32_t)random_next(r);
+    if (random_one_in(r, 8))
+        return (uint16_t)bits;
+    return random_one_in(r, 16) ? 256 : bits % 256;
+}
+
 void generate_exits(struct random *r, uint64_t exits[4])
 {
     unsigned density = random_below(r, 4);
@@ -66,10 +78,11 @@ static void any_record(struct random *r, struct gg_record *record)
     record->svi = (uint8_t)(bits >> 16);
     record->threshold = any_threshold(r);
     record->flags = any_controls(r);
+    record->notification_vector = generate_notification(r);
     generate_exits(r, record->eoi_exit);
 }
 
-static void random_bytes(struct random *r, uint8_t *to, size_t count)
+void generate_bytes(struct random *r, uint8_t *to, size_t count)
 {
     for (size_t at = 0; at + 8 <= count; at += 8) {
         uint64_t bits = random_next(r);
@@ -87,7 +100,7 @@ static void some_vectors(struct random *r, struct trial *t, uint32_t base)
 static void any_page(struct random *r, struct trial *t)
 {
     if (random_one_in(r, 4)) {
-        random_bytes(r, trial_page(t), GG_PAGE_LENGTH);
+        generate_bytes(r, trial_page(t), GG_PAGE_LENGTH);
     } else {
         some_vectors(r, t, GG_VISR);
         some_vectors(r, t, GG_VIRR);
@@ -118,7 +131,7 @@ static struct gg_event any_entry(struct random *r)
     uint64_t exits[4];
     uint32_t controls = any_controls(r), threshold = any_threshold(r);
     generate_exits(r, exits);
-    return gg_entry(controls, threshold, exits);
+    return gg_entry_notified(controls, threshold, exits, generate_notification(r));
 }
 
 /* Half of the offsets hit or just miss a register, the others lie anywhere. */
@@ -275,9 +288,13 @@ static void suit_mode(struct random *r, struct trial *t, unsigned kind)
 
 void generate_single(struct random *r, struct trial *t)
 {
-    unsigned kind = GG_ENTRY + random_below(r, KIND_LEAVE);
+    unsigned kind = GG_ENTRY + random_below(r, KIND_EXTERNAL);
     generate_state(r, t);
     suit_mode(r, t, kind);
+    if (kind == KIND_EXTERNAL) {
+        posting_set(r, t);
+        return;
+    }
     if (kind == KIND_LEAVE) {
         t->operation = TRIAL_LEAVE;
         return;

@@ -1,6 +1,8 @@
 /* Damage: wrong lengths, broken records, fields out of bounds, null pointers. */
 #include "generate.h"
 
+#include "posting.h"
+
 #include <string.h>
 
 const uint16_t page_lengths[PAGE_LENGTHS] = {GG_PAGE_LENGTH, 0, 1, 4095, 4097, PAGE_ROOM};
@@ -39,14 +41,14 @@ static void damage_recognised(struct random *r, struct trial *t)
 static void damage_record_flags(struct random *r, struct trial *t)
 {
     struct gg_record record = trial_record(t);
-    record.flags |= UINT32_C(1) << (9 + random_below(r, 23));
+    record.flags |= UINT32_C(1) << (11 + random_below(r, 21));
     trial_set_record(t, &record);
 }
 
 static void damage_record_reserved(struct random *r, struct trial *t)
 {
     struct gg_record record = trial_record(t);
-    uint32_t byte = random_below(r, 4);
+    uint32_t byte = random_below(r, 2);
     record.reserved_zero[byte] ^= (uint8_t)(1u << random_below(r, 8));
     trial_set_record(t, &record);
 }
@@ -101,8 +103,8 @@ static void damage_value(struct random *r, struct trial *t)
     trial_set_event(t, &event);
 }
 
-/* In an entry these bits are reserved, elsewhere they are the value's upper half. */
-static void damage_event_reserved(struct random *r, struct trial *t)
+/* In an entry these bits are the notification vector and reserved ones, elsewhere the value's upper half. */
+static void damage_upper_half(struct random *r, struct trial *t)
 {
     struct gg_event event = trial_event(t);
     event.value ^= UINT64_C(1) << (32 + random_below(r, 32));
@@ -115,6 +117,19 @@ static void damage_every_byte(struct random *r, struct trial *t)
         t->event_bytes[GUARD + at] = (uint8_t)random_next(r);
 }
 
+static void damage_notification(struct random *r, struct trial *t)
+{
+    struct gg_record record = trial_record(t);
+    record.notification_vector ^= (uint16_t)(1u << random_below(r, 16));
+    trial_set_record(t, &record);
+}
+
+/* An external interrupt's vector; nothing else looks at it. */
+static void damage_vector(struct random *r, struct trial *t)
+{
+    t->vector ^= UINT32_C(1) << random_below(r, 32);
+}
+
 static void damage_mode_of_event(struct random *r, struct trial *t)
 {
     t->record_bytes[GUARD] = (uint8_t)random_below(r, 2);
@@ -123,11 +138,11 @@ static void damage_mode_of_event(struct random *r, struct trial *t)
 typedef void damage_function(struct random *r, struct trial *t);
 
 static damage_function *const damages[] = {
-    generate_page_length,   damage_record_length,  damage_event_length,  damage_mode,
-    damage_recognised,      damage_record_flags,   damage_kind,          damage_size,
-    damage_event_flags,     damage_detail,         damage_number,        damage_value,
-    damage_any_record_byte, damage_every_byte,     damage_mode_of_event, damage_record_reserved,
-    damage_event_reserved,
+    generate_page_length,   damage_record_length, damage_event_length,  damage_mode,
+    damage_recognised,      damage_record_flags,  damage_kind,          damage_size,
+    damage_event_flags,     damage_detail,        damage_number,        damage_value,
+    damage_any_record_byte, damage_every_byte,    damage_mode_of_event, damage_record_reserved,
+    damage_upper_half,      damage_notification,  damage_vector,        posting_length,
 };
 
 enum { DAMAGES = sizeof damages / sizeof damages[0] };
@@ -141,5 +156,5 @@ void generate_junk(struct random *r, struct trial *t)
     for (size_t at = GG_PAGE_LENGTH; at < t->page_len; at++)
         trial_page(t)[at] = (uint8_t)random_next(r);
     if (random_one_in(r, 16))
-        trial_set_nulls(t, 1 + random_below(r, 7));
+        trial_set_nulls(t, 1 + random_below(r, EVERY_NULL));
 }

@@ -1,9 +1,8 @@
-/* Named cases; each expected number is document 01's; those of leave, question and bytes are the header's. */
+/* Named cases; expected numbers are the documents', those of leave, question and bytes the header's. */
 #include "named.h"
 
 #include "edge.h"
 #include "generate.h"
-#include "stage.h"
 
 #include <stdio.h>
 #include <string.h>
@@ -345,6 +344,8 @@ static void bochs_8(struct stage *s)
         {both | GG_USE_TPR_SHADOW, 16, GG_CHECK_BOTH_APIC_MODES},
         {GG_USE_TPR_SHADOW | GG_VIRTUAL_INTERRUPT_DELIVERY, 16, GG_CHECK_EXTERNAL_INTERRUPTS},
         {GG_USE_TPR_SHADOW, 16, GG_CHECK_TPR_THRESHOLD},
+        {GG_USE_TPR_SHADOW | CONTROLS_POSTING, 16, GG_CHECK_TPR_THRESHOLD},
+        {GG_USE_TPR_SHADOW | CONTROLS_POSTING, 15, GG_CHECK_POSTED_INTERRUPTS},
         {GG_USE_TPR_SHADOW, 15, GG_CHECK_TPR_BELOW_THRESHOLD},
     };
     for (size_t i = 0; i < sizeof rows / sizeof rows[0]; i++) {
@@ -427,7 +428,7 @@ static void leave_in_root(struct stage *s)
 
 static void leave_reserved(struct stage *s)
 {
-    for (unsigned byte = 0; byte < 4; byte++) {
+    for (unsigned byte = 0; byte < 2; byte++) {
         with_60_recognised(s);
         stage_set_reserved(s, byte, 1);
         struct trial kept = s->now;
@@ -443,9 +444,9 @@ static void reserved(struct stage *s)
     stage_guest(s, CONTROLS_X2);
     stage_step(s, gg_wrmsr(0x80B, UINT64_C(1) << 32));
     expect_answer(s, GG_FAULT, 0, 0);
-    for (unsigned byte = 0; byte < 4; byte++) {
+    for (unsigned byte = 0; byte < 2; byte++) {
         struct gg_event entry = gg_entry(CONTROLS_V, 0, NULL);
-        entry.value |= UINT64_C(1) << (32 + 8 * byte);
+        entry.value |= UINT64_C(1) << (48 + 8 * byte);
         stage_fresh(s);
         stage_step(s, entry);
         expect_answer(s, GG_REFUSED, GG_REFUSED_BOUNDS, 0);
@@ -536,11 +537,7 @@ static void highest_in_k1(struct stage *s)
     expect_highest_none(s, GG_VISR);
 }
 
-static const struct {
-    const char *name;
-    void (*play)(struct stage *s);
-    const char *words;
-} cases[] = {
+static const struct named_case cases[] = {
     {"K1", k1, "request, entry, delivery of 60"},
     {"K2", k2, "a self-IPI of 71 nests over 60"},
     {"K3", k3, "EOI returns to 60"},
@@ -569,25 +566,32 @@ static const struct {
     {"LEAVE", leave_recognised, "a leave drops recognition and nothing else"},
     {"LEAVE-IN-ROOT", leave_in_root, "a leave in root mode is refusal 3"},
     {"LEAVE-RESERVED", leave_reserved, "a leave with a reserved byte is refusal 2"},
-    {"RESERVED", reserved, "bytes 12 to 15 of a record and of an entry are 0"},
+    {"RESERVED", reserved, "bytes 14 and 15 of a record and of an entry are 0"},
     {"HIGHEST-NONE", highest_of_nothing, "the highest vector of an empty register is none"},
     {"HIGHEST-K12", highest_of_k12, "after K12 the highest request is 00 and the highest service none"},
     {"HIGHEST-255", highest_of_255, "the highest of bit 255 alone is FF"},
     {"HIGHEST-ALL", highest_of_all, "the highest of every bit is FF, without bit 255 it is FE"},
     {"HIGHEST-REFUSED", highest_refused, "the question's two refusals and their order"},
     {"HIGHEST-K1", highest_in_k1, "60 is the highest request before K1's delivery, the highest service after"},
+    {NULL, NULL, NULL},
 };
 
-unsigned named_run(void)
+static unsigned run_list(const struct named_case *list)
 {
     static struct stage stage;
     unsigned failed = 0;
-    for (size_t i = 0; i < sizeof cases / sizeof cases[0]; i++) {
-        stage.name = cases[i].name;
+    for (; list->name; list++) {
+        stage.name = list->name;
         stage.failures = 0;
-        cases[i].play(&stage);
-        printf("%s %s: %s\n", stage.failures ? "FAILED" : "ok", cases[i].name, cases[i].words);
+        list->play(&stage);
+        printf("%s %s: %s\n", stage.failures ? "FAILED" : "ok", list->name, list->words);
         failed += stage.failures > 0;
     }
     return failed;
+}
+
+unsigned named_run(void)
+{
+    unsigned failed = run_list(cases);
+    return failed + run_list(posting_cases);
 }

@@ -1,7 +1,8 @@
-/* A null page, record or event with length 0 is refused as any wrong length is. */
+/* A null page, record, event or descriptor with length 0 is refused as any wrong length is. */
 #include "null.h"
 
 #include "generate.h"
+#include "posting.h"
 #include "question.h"
 #include "show.h"
 
@@ -37,7 +38,17 @@ static unsigned taken(unsigned kind)
 {
     if (kind == KIND_LEAVE)
         return NULL_RECORD;
+    if (kind == KIND_EXTERNAL)
+        return NULL_PAGE | NULL_RECORD | NULL_DESCRIPTOR;
     return kind == KIND_HIGHEST ? NULL_PAGE : NULL_PAGE | NULL_RECORD | NULL_EVENT;
+}
+
+/* The first refusal that a choice of null pointers asks for, in the order 1, 5, 2. */
+static uint64_t due(unsigned handed)
+{
+    if (handed & NULL_PAGE)
+        return GG_REFUSED_PAGE_LENGTH;
+    return handed & NULL_DESCRIPTOR ? GG_REFUSED_DESCRIPTOR_LENGTH : GG_REFUSED_BOUNDS;
 }
 
 static void set_call(struct random *r, struct trial *t, unsigned kind)
@@ -46,21 +57,23 @@ static void set_call(struct random *r, struct trial *t, unsigned kind)
     trial_set_event(t, &event);
     if (kind == KIND_LEAVE)
         t->operation = TRIAL_LEAVE;
+    if (kind == KIND_EXTERNAL)
+        trial_set_external(t, posting_vector_for(r, t));
     if (kind == KIND_HIGHEST)
         trial_set_question(t, random_one_in(r, 2) ? question_wrong_base(r) : question_register(r));
 }
 
-/* Every choice of null pointers, for one kind of event, for a leave or for the question. */
+/* Every choice of null pointers, for one kind of event, or for one of the calls that have no event. */
 static void each_choice(struct random *r, unsigned kind)
 {
     static struct trial t;
-    for (unsigned nulls = 1; nulls <= (NULL_PAGE | NULL_RECORD | NULL_EVENT); nulls++) {
+    for (unsigned nulls = 1; nulls <= EVERY_NULL; nulls++) {
         generate_state(r, &t);
         set_call(r, &t, kind);
         trial_set_nulls(&t, nulls);
         unsigned handed = nulls & taken(kind);
         if (handed)
-            check(&t, handed & NULL_PAGE ? GG_REFUSED_PAGE_LENGTH : GG_REFUSED_BOUNDS);
+            check(&t, due(handed));
     }
 }
 

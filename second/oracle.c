@@ -1,4 +1,4 @@
-/* Document 01's rules, with E2 of document 02; the leave and the question are the header's. */
+/* Document 01's rules, with E1 and E2 of document 02; the leave and the question are the header's. */
 #include "oracle.h"
 
 #include "bounds.h"
@@ -130,6 +130,24 @@ static struct outcome self_ipi(struct apic *a, unsigned vector)
     return quiet();
 }
 
+/* An entry's notification vector, which stands above its controls. */
+static uint16_t notification_of(const struct happening *e)
+{
+    return (uint16_t)(e->value >> 32);
+}
+
+/* Check 5: posting on without VID, without acknowledge, or with a notification vector above 255. */
+static bool check_5_fails(const struct happening *e)
+{
+    uint32_t c = (uint32_t)e->value;
+    bool vid = in(c, DELIVERY) || FAULT(CHECK_5_VID);
+    bool acknowledge = in(c, ACKNOWLEDGE) || FAULT(CHECK_5_ACKNOWLEDGE);
+    bool vector = notification_of(e) <= 255 || FAULT(CHECK_5_VECTOR);
+    if (FAULT(CHECK_5_OFF) && !vector)
+        return true;
+    return in(c, POSTING) && !(vid && acknowledge && vector);
+}
+
 /* E2: the entry's threshold counts, shadow on and VID off, and the priority given is of a class below it. */
 static bool enters_below(const struct happening *e, unsigned priority)
 {
@@ -147,7 +165,7 @@ static bool check_6_fails(const struct happening *e, const uint8_t *page)
     return enters_below(e, page[FAULT(CHECK_6_VPPR) ? VPPR : VTPR]);
 }
 
-/* The number of the first entry check that fails, 0 where none does; there is no check 5. */
+/* The number of the first entry check that fails, 0 where none does. */
 static unsigned failing_check(const struct happening *e, const uint8_t *page)
 {
     uint32_t c = (uint32_t)e->value;
@@ -163,8 +181,14 @@ static unsigned failing_check(const struct happening *e, const uint8_t *page)
         return 3;
     if (FAULT(CHECK_6_FIRST) && check_6_fails(e, page))
         return 6;
+    if (FAULT(CHECK_5_FIRST) && check_5_fails(e))
+        return 5;
     if (shadow && !vid && e->number > 15)
         return 4;
+    if (FAULT(CHECK_5_LAST) && check_6_fails(e, page))
+        return 6;
+    if (check_5_fails(e))
+        return 5;
     return check_6_fails(e, page) ? 6 : 0;
 }
 
@@ -172,6 +196,8 @@ static void take_controls(struct cpu *cpu, const struct happening *e)
 {
     cpu->controls = (uint32_t)e->value;
     cpu->threshold = e->number;
+    if (!FAULT(ENTRY_KEEPS_VECTOR))
+        cpu->notification = notification_of(e) & (FAULT(ENTRY_LOW_BYTE) ? 0xFF : 0xFFFF);
     memcpy(cpu->eoi_exit, e->eoi_exit, sizeof e->eoi_exit);
 }
 
@@ -401,6 +427,67 @@ struct outcome oracle_step(struct cpu *cpu, uint8_t *page, size_t page_len, cons
     default:
         return request(&a, event->number);
     }
+}
+
+/* Whether an external interrupt is the notification that something is posted: all 16 bits are compared. */
+static bool notifies(const struct apic *a, uint32_t vector)
+{
+    bool posting = on(a, POSTING) || FAULT(POSTING_OFF);
+    if ((FAULT(POSTING_VID) && !on(a, DELIVERY)) || (FAULT(POSTING_ACKNOWLEDGE) && !on(a, ACKNOWLEDGE)))
+        posting = false;
+    return posting && vector == (a->cpu->notification & (FAULT(POSTING_LOW_BYTE) ? 0xFF : 0xFFFF));
+}
+
+/* The outstanding bit is cleared; bits 7:1 of its byte and the bytes after it stay. */
+static void clear_outstanding(uint8_t *descriptor)
+{
+    uint8_t kept = FAULT(OUTSTANDING_KEPT) ? 0xFF : NOT_OUTSTANDING;
+    descriptor[AT_OUTSTANDING] &= FAULT(POSTING_CLEARS_BYTE) ? 0 : kept;
+    if (FAULT(POSTING_CLEARS_REST))
+        memset(descriptor + AT_OUTSTANDING + 1, 0, DESCRIPTOR - AT_OUTSTANDING - 1);
+}
+
+/* "Posted bits join VIRR and are cleared": the highest of them, or none. */
+static int join_posted(struct apic *a, uint8_t *descriptor)
+{
+    for (unsigned row = 0; FAULT(POSTING_REPLACES) && row < 8; row++)
+        store_word(a->page + VIRR + 16 * row, 0);
+    int found = take_posted(a->page, VIRR, descriptor);
+    if (FAULT(POSTING_KEEPS) && found != NO_VECTOR)
+        descriptor[found / 8] |= (uint8_t)(1u << found % 8);
+    return FAULT(POSTING_NONE_255) && found == NO_VECTOR ? 255 : found;
+}
+
+/* A notification is processed whether or not it is outstanding; without a posted vector RVI stays. */
+static struct outcome process_posted(struct apic *a, uint8_t *descriptor)
+{
+    if (FAULT(OUTSTANDING_ASKED) && !(descriptor[AT_OUTSTANDING] & 1))
+        return quiet();
+    clear_outstanding(descriptor);
+    int found = join_posted(a, descriptor);
+    if (found > (int)a->cpu->rvi || (FAULT(POSTING_LOWERS) && found != NO_VECTOR))
+        a->cpu->rvi = (unsigned)found;
+    if (FAULT(POSTING_RVI_OF_VIRR))
+        a->cpu->rvi = or_zero(search(a->page, VIRR));
+    if (!FAULT(POSTING_NO_EVALUATION))
+        evaluate(a);
+    return quiet();
+}
+
+struct outcome oracle_external_interrupt(struct cpu *cpu, uint8_t *page, size_t page_len, uint8_t *descriptor,
+                                         size_t descriptor_len, uint32_t vector)
+{
+    struct apic a = {cpu, page};
+    unsigned refused = bounds_external_refusal(cpu, page_len, descriptor_len, vector);
+    if (refused)
+        return answer(REFUSED, refused, 0);
+    if (!on(&a, EXTERNAL) && !FAULT(EXTERNAL_EXITS))
+        return passthrough();
+    if (notifies(&a, vector))
+        return process_posted(&a, descriptor);
+    if (FAULT(EXIT_1_CLEARS))
+        clear_outstanding(descriptor);
+    return leave(&a, 1, FAULT(EXIT_1_VECTOR) ? vector : 0);
 }
 
 struct outcome oracle_leave(struct cpu *cpu)

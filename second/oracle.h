@@ -1,4 +1,4 @@
-/* The second program: document 01's rules, the header's leave and question, each from its own sentences. */
+/* The second program: the documents' rules, the header's leave and question, each from its own sentences. */
 #ifndef ORACLE_H
 #define ORACLE_H
 
@@ -13,11 +13,15 @@ struct cpu {
     unsigned recognised;
     uint32_t threshold;
     uint32_t controls;
-    uint32_t reserved; /* bytes 12 to 15, which must be 0 */
-    uint8_t eoi_exit[32]; /* vector v at byte v / 8, bit v mod 8 */
+    uint16_t notification; /* the notification vector, bytes 12 and 13 */
+    unsigned reserved;     /* bytes 14 and 15, which must be 0 */
+    uint8_t eoi_exit[32];  /* vector v at byte v / 8, bit v mod 8 */
 };
 
-/* What happens to the processor; which fields count depends on the kind. An entry's controls are a value. */
+/*
+ * What happens to the processor; which fields count depends on the kind. An entry's value is its controls,
+ * with the notification vector in bits 47:32.
+ */
 struct happening {
     unsigned kind;
     unsigned size;
@@ -39,6 +43,10 @@ struct outcome {
 enum { NO_MODE = 255, NO_KIND = 0 };
 
 struct outcome oracle_step(struct cpu *cpu, uint8_t *page, size_t page_len, const struct happening *event);
+
+/* E1: an external interrupt with a vector, which alone takes the descriptor. */
+struct outcome oracle_external_interrupt(struct cpu *cpu, uint8_t *page, size_t page_len, uint8_t *descriptor,
+                                         size_t descriptor_len, uint32_t vector);
 
 /* The guest leaves for a reason that is no event. */
 struct outcome oracle_leave(struct cpu *cpu);

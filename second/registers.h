@@ -19,6 +19,17 @@ static inline void store(uint8_t *to, unsigned size, uint64_t value)
         to[byte] = (uint8_t)(value >> 8 * byte);
 }
 
+static inline uint16_t load_half(const uint8_t *from)
+{
+    return (uint16_t)(from[0] | from[1] << 8);
+}
+
+static inline void store_half(uint8_t *to, uint16_t value)
+{
+    to[0] = (uint8_t)value;
+    to[1] = (uint8_t)(value >> 8);
+}
+
 static inline uint32_t load_word(const uint8_t *from)
 {
     return (uint32_t)from[0] | (uint32_t)from[1] << 8 | (uint32_t)from[2] << 16 | (uint32_t)from[3] << 24;
@@ -49,7 +60,7 @@ static inline void put_vector(uint8_t *page, unsigned base, unsigned vector, boo
 enum { NO_VECTOR = -1 };
 
 #ifdef SCAN_WORDS
-/* The highest set vector or NO_VECTOR; word by word, for timing only. */
+/* The highest set vector or NO_VECTOR; this and the next function word by word, for timing only. */
 static inline int highest(const uint8_t *page, unsigned base)
 {
     for (unsigned row = 8; row-- > 0;) {
@@ -58,6 +69,24 @@ static inline int highest(const uint8_t *page, unsigned base)
             return (int)(32 * row + 31 - (unsigned)__builtin_clz(word));
     }
     return NO_VECTOR;
+}
+
+/* Moves a descriptor's posted bits into the register at base; the highest or NO_VECTOR. */
+static inline int take_posted(uint8_t *page, unsigned base, uint8_t *descriptor)
+{
+    uint32_t top = 0;
+    unsigned top_row = 0;
+    for (unsigned row = 0; row < 8; row++) {
+        uint32_t posted = load_word(descriptor + 4 * row);
+        if (!posted)
+            continue;
+        uint8_t *requests = page + base + 16 * row;
+        store_word(requests, load_word(requests) | posted);
+        store_word(descriptor + 4 * row, 0);
+        top = posted;
+        top_row = row;
+    }
+    return top ? (int)(32 * top_row + 31 - (unsigned)__builtin_clz(top)) : NO_VECTOR;
 }
 #else
 /* The highest set vector or NO_VECTOR; bit by bit from the top. */
@@ -70,6 +99,21 @@ static inline int highest(const uint8_t *page, unsigned base)
                 return (int)(32 * row + bit);
     }
     return NO_VECTOR;
+}
+
+/* Moves a descriptor's posted bits into the register at base one by one; the highest or NO_VECTOR. */
+static inline int take_posted(uint8_t *page, unsigned base, uint8_t *descriptor)
+{
+    int found = NO_VECTOR;
+    for (unsigned vector = 0; vector < 256; vector++) {
+        uint8_t bit = (uint8_t)(1u << vector % 8), *byte = descriptor + vector / 8;
+        if (!(*byte & bit))
+            continue;
+        *byte = (uint8_t)(*byte & ~bit);
+        put_vector(page, base, vector, true);
+        found = (int)vector;
+    }
+    return found;
 }
 #endif
 

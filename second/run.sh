@@ -79,8 +79,12 @@ for fault in $(faults); do
 done
 expect 0 report-none says fault-none-is-zero '^  VI[SR]R: none$' '^  model  answers 2 none,' '^  second answers 1 vector 00H,'
 expect 0 report-zero says fault-zero-is-none '^  VI[SR]R: 00H$' '^  model  answers 1 vector 00H,' '^  second answers 2 none,'
+expect 0 report-posted says fault-posting-keeps-highest '^  posted: [0-9A-F][0-9A-F]H' '^  descriptor byte 0[01][0-9A-F]H: '
+expect 0 report-none-posted says fault-posting-none-is-255 '^  posted: none$' '^  record byte 001H: .. | FF$'
 expect 1 null-fault-page-length-after-bounds find_fault page-length-after-bounds null
 expect 1 null-fault-highest-base-first find_fault highest-base-first null
+expect 1 null-fault-descriptor-length-first find_fault descriptor-length-first null
+expect 1 null-fault-descriptor-length-last find_fault descriptor-length-last null
 expect 1 matters-fault-hlt-is-shut find_fault hlt-is-shut matters
 expect 1 matters-fault-mov-ss-is-open find_fault mov-ss-is-open matters
 expect 0 build-bench build_bench "$archive"

@@ -2,6 +2,7 @@
 #include "session.h"
 
 #include "generate.h"
+#include "posting.h"
 #include "question.h"
 
 #include <string.h>
@@ -9,8 +10,11 @@
 /* A session climbs for this many steps, then falls for as many. */
 enum { PHASE = 64 };
 
-/* One step in so many is a leave, which root mode refuses, or the question, which changes nothing. */
-enum { LEAVES = 24, QUESTIONS = 16 };
+/*
+ * One step in so many is a leave or an external interrupt, which root mode refuses, or the question, which
+ * changes nothing.
+ */
+enum { LEAVES = 24, EXTERNALS = 12, QUESTIONS = 16 };
 
 void session_start(struct session *s, uint64_t number)
 {
@@ -39,9 +43,14 @@ static struct gg_event choose_entry(struct random *r, const struct session *s)
         controls |= GG_CR8_STORE_EXITING;
     if (random_one_in(r, 32))
         controls &= ~GG_EXTERNAL_INTERRUPT_EXITING;
+    if (!random_one_in(r, 4))
+        controls |= CONTROLS_POSTING;
+    if (random_one_in(r, 32))
+        controls &= ~GG_ACKNOWLEDGE_INTERRUPT_ON_EXIT;
     if (s->number % 2)
         generate_exits(r, exits);
-    return gg_entry(controls, random_below(r, 18), exits);
+    uint32_t threshold = random_below(r, 18);
+    return gg_entry_notified(controls, threshold, exits, generate_notification(r));
 }
 
 static struct gg_event choose_in_root(struct random *r, const struct session *s)
@@ -102,6 +111,27 @@ static struct gg_event choose_wild(struct random *r, const struct session *s)
     return generate_event(r, GG_MEMORY_READ + random_below(r, GG_BOUNDARY - GG_MEMORY_READ + 1));
 }
 
+/* Posts a few vectors, mostly of classes up to the next above VPPR's, so that nesting stays deep. */
+static void post_some(struct random *r, struct trial *t)
+{
+    uint32_t above = (gg_word(trial_page_of(t), GG_VPPR) >> 4 & 15) + 2;
+    uint32_t bound = above > 16 || random_one_in(r, 8) ? 256 : 16 * above;
+    for (uint32_t left = random_below(r, 4); left > 0; left--)
+        gg_post(trial_descriptor(t), (uint8_t)random_below(r, bound));
+}
+
+/* An external interrupt; what is posted and not yet processed stays in the descriptor from step to step. */
+static void choose_external(struct random *r, struct session *s)
+{
+    if (session_is_wild(s))
+        posting_descriptor(r, &s->now);
+    else
+        post_some(r, &s->now);
+    trial_set_external(&s->now, posting_vector_for(r, &s->now));
+    if (random_one_in(r, 32))
+        posting_length(r, &s->now);
+}
+
 /* Makes a few steps refused: a short page, an unknown kind, the other mode's event. */
 static void spoil(struct random *r, struct session *s, struct gg_event *event)
 {
@@ -121,6 +151,7 @@ void session_choose(struct random *r, struct session *s)
 {
     struct gg_event event;
     s->now.page_len = GG_PAGE_LENGTH;
+    s->now.descriptor_len = GG_DESCRIPTOR_LENGTH;
     if (session_is_wild(s))
         event = choose_wild(r, s);
     else if (trial_record(&s->now).mode == GG_ROOT)
@@ -131,13 +162,16 @@ void session_choose(struct random *r, struct session *s)
         spoil(r, s, &event);
     trial_set_event(&s->now, &event);
     s->now.operation = random_one_in(r, LEAVES) ? TRIAL_LEAVE : TRIAL_STEP;
+    if (random_one_in(r, EXTERNALS))
+        choose_external(r, s);
     if (random_one_in(r, QUESTIONS))
         trial_set_question(&s->now, question_register(r));
 }
 
 const char *session_advance(struct session *s, const struct side *side)
 {
+    const char *broken = session_is_wild(s) ? NULL : audit_step(&s->audit, &s->now, side);
     trial_copy(&s->now, &side->trial);
     s->step++;
-    return session_is_wild(s) ? NULL : audit_step(&s->audit, side);
+    return broken;
 }

@@ -20,7 +20,7 @@ void session_start(struct session *s, uint64_t number);
 /* Every fourth session enters with any controls; the others keep virtual-interrupt delivery on. */
 bool session_is_wild(const struct session *s);
 
-/* Chooses the next event, a leave or the question, from the state that the session has reached. */
+/* Chooses the next event, external interrupt, leave or question, from the state that is reached. */
 void session_choose(struct random *r, struct session *s);
 
 /* Hands on what the step leaves; returns the broken sentence of condition 3, or null. */

@@ -9,9 +9,9 @@
 
 const char *show_kind(unsigned kind)
 {
-    static const char *const names[KINDS] = {"unknown", "entry",    "memory read", "memory write",
-                                             "to CR8",  "from CR8", "RDMSR",       "WRMSR",
-                                             "boundary", "request", "leave",       "highest"};
+    static const char *const names[KINDS] = {
+        "unknown", "entry",    "memory read", "memory write", "to CR8",             "from CR8", "RDMSR",
+        "WRMSR",   "boundary", "request",     "leave",        "external interrupt", "highest"};
     return names[kind];
 }
 
@@ -31,6 +31,8 @@ const char *show_highest_answer(unsigned number)
 const char *show_reason(unsigned reason)
 {
     switch (reason) {
+    case GG_EXIT_EXTERNAL_INTERRUPT:
+        return "external interrupt";
     case GG_EXIT_INTERRUPT_WINDOW:
         return "interrupt window";
     case GG_EXIT_CONTROL_REGISTER:
@@ -59,6 +61,8 @@ const char *show_check(unsigned check)
         return "external interrupts";
     case GG_CHECK_TPR_THRESHOLD:
         return "TPR threshold";
+    case GG_CHECK_POSTED_INTERRUPTS:
+        return "posted interrupts";
     case GG_CHECK_TPR_BELOW_THRESHOLD:
         return "TPR below threshold";
     default:
@@ -76,8 +80,9 @@ static void show_bytes(const char *name, const uint8_t *bytes, size_t count)
 
 static void show_controls(uint32_t flags)
 {
-    static const char *const names[] = {"shadow",   "APIC-accesses", "x2APIC",   "registers", "VID",
-                                        "external", "window",        "CR8-load", "CR8-store"};
+    static const char *const names[] = {"shadow",    "APIC-accesses", "x2APIC",     "registers",
+                                        "VID",       "external",      "window",     "CR8-load",
+                                        "CR8-store", "posting",       "acknowledge"};
     printf("%03" PRIX32 " (", flags);
     for (unsigned bit = 0; bit < COUNT(names); bit++)
         if (flags >> bit & 1)
@@ -116,7 +121,7 @@ static void show_record(const struct trial *t)
     printf("  mode %u, RVI %02X, SVI %02X, recognised %u, threshold %" PRIX32 ", controls ", record.mode,
            record.rvi, record.svi, record.recognised, record.threshold);
     show_controls(record.flags);
-    printf("\n");
+    printf(", notification vector %04X\n", record.notification_vector);
     show_bytes("reserved", record.reserved_zero, sizeof record.reserved_zero);
     show_bytes("EOI exits", t->record_bytes + GUARD + offsetof(struct gg_record, eoi_exit), 32);
 }
@@ -127,9 +132,37 @@ static void show_question(const struct trial *t)
     printf("  question: highest vector of %s, base %03" PRIX64 "H; the page alone is read\n", name, t->base);
 }
 
+/* The posted vectors, none where there is none; after 40 of them their number and the highest. */
+static void show_posted(const struct trial *t)
+{
+    unsigned posted = 0, highest = 0;
+    printf("  posted:");
+    for (unsigned vector = 0; vector < 256; vector++) {
+        if (!trial_is_posted(t, vector))
+            continue;
+        highest = vector;
+        if (posted++ < 40)
+            printf(" %02XH", vector);
+    }
+    if (posted > 40)
+        printf(" .., %u vectors, highest %02XH", posted, highest);
+    printf(posted == 0 ? " none\n" : "\n");
+}
+
+static void show_external(const struct trial *t)
+{
+    printf("  external interrupt: vector %" PRIX64 "H; no event is handed over\n", t->vector);
+    show_posted(t);
+    show_bytes("descriptor", trial_descriptor_of(t), GG_DESCRIPTOR_LENGTH);
+}
+
 static void show_event(const struct trial *t)
 {
     struct gg_event event = trial_event(t);
+    if (t->operation == TRIAL_EXTERNAL) {
+        show_external(t);
+        return;
+    }
     if (t->operation == TRIAL_HIGHEST) {
         show_question(t);
         return;
@@ -143,7 +176,8 @@ static void show_event(const struct trial *t)
     if (event.kind == GG_ENTRY) {
         printf("  entry's controls ");
         show_controls((uint32_t)event.value);
-        printf(", reserved %08" PRIX32, (uint32_t)(event.value >> 32));
+        printf(", reserved %04X, notification vector %04X", (unsigned)(event.value >> 48),
+               (unsigned)(event.value >> 32 & 0xFFFF));
         printf(", threshold %" PRIX32 "\n", event.number);
     }
     show_bytes("event bytes", t->event_bytes + GUARD, GG_EVENT_LENGTH);
@@ -161,8 +195,9 @@ void show_trial(const struct trial *t)
         uint32_t offset;
     } words[] = {{"VTPR", GG_VTPR}, {"VPPR", GG_VPPR}, {"VEOI", GG_VEOI}, {"VICR_LO", GG_VICR_LO},
                  {"VICR_HI", GG_VICR_HI}};
-    printf("  lengths: page %zu%s, record %zu%s, event %zu%s\n", t->page_len, show_null(t, NULL_PAGE),
-           t->record_len, show_null(t, NULL_RECORD), t->event_len, show_null(t, NULL_EVENT));
+    printf("  lengths: page %zu%s, record %zu%s, event %zu%s, descriptor %zu%s\n", t->page_len,
+           show_null(t, NULL_PAGE), t->record_len, show_null(t, NULL_RECORD), t->event_len,
+           show_null(t, NULL_EVENT), t->descriptor_len, show_null(t, NULL_DESCRIPTOR));
     show_record(t);
     printf("  page:");
     for (size_t i = 0; i < COUNT(words); i++)
@@ -229,6 +264,8 @@ static void show_two(const struct trial *left, const struct trial *right)
     show_unequal("record", left->record_bytes, right->record_bytes, sizeof left->record_bytes);
     show_unequal("page", left->page_bytes, right->page_bytes, trial_page_used(left));
     show_unequal("event", left->event_bytes, right->event_bytes, sizeof left->event_bytes);
+    show_unequal("descriptor", left->descriptor_bytes, right->descriptor_bytes,
+                 sizeof left->descriptor_bytes);
 }
 
 void show_changes(const char *who, const struct trial *before, const struct trial *after)

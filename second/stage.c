@@ -50,6 +50,21 @@ void stage_set_reserved(struct stage *s, unsigned byte, uint8_t value)
     trial_set_record(&s->now, &record);
 }
 
+void stage_set_requested(struct stage *s, uint8_t rvi, uint32_t vppr)
+{
+    struct gg_record record = trial_record(&s->now);
+    record.rvi = rvi;
+    trial_set_record(&s->now, &record);
+    trial_put_word(&s->now, GG_VPPR, vppr);
+}
+
+void stage_set_notification(struct stage *s, uint16_t vector)
+{
+    struct gg_record record = trial_record(&s->now);
+    record.notification_vector = vector;
+    trial_set_record(&s->now, &record);
+}
+
 static void fail(struct stage *s, const char *who, const char *what, uint64_t got, uint64_t wanted)
 {
     printf("  %s: %s: %s is %" PRIX64 "H and has to be %" PRIX64 "H\n", s->name, who, what, got, wanted);
@@ -72,6 +87,12 @@ void stage_step(struct stage *s, struct gg_event event)
 {
     trial_set_event(&s->now, &event);
     s->now.operation = TRIAL_STEP;
+    play(s);
+}
+
+void stage_external(struct stage *s, uint32_t vector)
+{
+    trial_set_external(&s->now, vector);
     play(s);
 }
 
@@ -176,4 +197,20 @@ void expect_record(struct stage *s, const struct trial *kept)
     size_t size = sizeof kept->record_bytes;
     both(s, "the record as it should be", !memcmp(s->pair.model.trial.record_bytes, kept->record_bytes, size),
          !memcmp(s->pair.second.trial.record_bytes, kept->record_bytes, size), 1);
+}
+
+void expect_descriptor(struct stage *s, const struct trial *kept)
+{
+    size_t size = sizeof kept->descriptor_bytes;
+    const struct trial *model = &s->pair.model.trial, *second = &s->pair.second.trial;
+    both(s, "the descriptor as it should be", !memcmp(model->descriptor_bytes, kept->descriptor_bytes, size),
+         !memcmp(second->descriptor_bytes, kept->descriptor_bytes, size), 1);
+}
+
+void expect_refused(struct stage *s, const struct trial *kept, uint64_t refusal)
+{
+    expect_answer(s, GG_REFUSED, refusal, 0);
+    expect_record(s, kept);
+    expect_page(s, kept);
+    expect_descriptor(s, kept);
 }

@@ -20,9 +20,12 @@ void stage_set_priority(struct stage *s, uint32_t vtpr, uint8_t svi);
 void stage_set_threshold(struct stage *s, uint32_t threshold);
 void stage_set_eoi_exit(struct stage *s, uint8_t vector);
 void stage_set_reserved(struct stage *s, unsigned byte, uint8_t value);
+void stage_set_requested(struct stage *s, uint8_t rvi, uint32_t vppr);
+void stage_set_notification(struct stage *s, uint16_t vector);
 
-/* Carries out an event, or a leave, on both programs and hands their state on. */
+/* Carries out an event, an external interrupt or a leave on both programs and hands their state on. */
 void stage_step(struct stage *s, struct gg_event event);
+void stage_external(struct stage *s, uint32_t vector);
 void stage_leave(struct stage *s);
 
 /* What both programs have to show after the last step. */
@@ -40,8 +43,12 @@ void expect_highest(struct stage *s, uint32_t base, uint8_t vector);
 void expect_highest_none(struct stage *s, uint32_t base);
 void expect_highest_refused(struct stage *s, uint32_t base, uint64_t refusal);
 
-/* The page, or the record, has to be that of a state kept before. */
+/* The page, the record or the descriptor has to be that of a state kept before. */
 void expect_page(struct stage *s, const struct trial *kept);
 void expect_record(struct stage *s, const struct trial *kept);
+void expect_descriptor(struct stage *s, const struct trial *kept);
+
+/* Refused by this number, with page, record and descriptor as they were. */
+void expect_refused(struct stage *s, const struct trial *kept, uint64_t refusal);
 
 #endif

@@ -2,14 +2,14 @@
 #include "sweep.h"
 
 #include "generate.h"
+#include "posting.h"
 #include "question.h"
 
 #include <string.h>
 
 #define COUNT(array) (sizeof(array) / sizeof((array)[0]))
 
-/* Controls of a set, each turned on or off by a digit of its own. */
-static uint32_t choices(uint64_t *index, uint32_t set)
+uint32_t choices(uint64_t *index, uint32_t set)
 {
     uint32_t chosen = 0;
     for (uint32_t control = 1; control <= GG_ALL_CONTROLS; control <<= 1)
@@ -32,8 +32,7 @@ static void busy_page(struct trial *t, uint8_t *rvi, uint8_t *svi)
     *svi = 0x50;
 }
 
-/* Guest mode under some controls on a busy page. */
-static void busy_guest(struct trial *t, uint32_t controls)
+void busy_guest(struct trial *t, uint32_t controls)
 {
     trial_fresh(t);
     struct gg_record record = trial_record(t);
@@ -219,26 +218,26 @@ static void sweep_boundary(struct random *r, uint64_t index, struct trial *t)
 static const uint32_t entry_thresholds[] = {0, 5, 15, 16, 0xFFFFFFFF};
 static const uint8_t entry_vtpr[] = {0x00, 0x4F, 0x50, 0xFF};
 
-enum { ENTRY_CASES = 512 * 5 * 4 * 3 * 2 };
+enum { ENTRY_CASES = (GG_ALL_CONTROLS + 1) * 5 * 4 * 2 };
 
-/* Every set of controls, so that every pair of failing checks meets. */
+/* Every set of controls, so that every pair of failing checks meets; RVI is drawn. */
 static void sweep_entry(struct random *r, uint64_t index, struct trial *t)
 {
     static const uint8_t rvis[] = {0x00, 0x5F, 0xFF};
-    uint32_t controls = digit(&index, 512);
+    uint32_t controls = digit(&index, GG_ALL_CONTROLS + 1);
     uint32_t threshold = entry_thresholds[digit(&index, 5)];
     uint8_t vtpr = entry_vtpr[digit(&index, 4)];
     busy_guest(t, GG_CR8_STORE_EXITING);
     struct gg_record record = trial_record(t);
-    record.rvi = rvis[digit(&index, 3)];
-    record.recognised = (uint8_t)digit(&index, 2);
+    record.rvi = rvis[random_below(r, 3)];
+    record.recognised = random_one_in(r, 2);
     record.mode = GG_ROOT;
     trial_set_record(t, &record);
     trial_put_word(t, GG_VTPR, vtpr);
     trial_put_word(t, GG_VPPR, 0xFFFFFFFF);
     uint64_t exits[4];
     generate_exits(r, exits);
-    struct gg_event event = gg_entry(controls, threshold, exits);
+    struct gg_event event = gg_entry_notified(controls, threshold, exits, digit(&index, 2) ? 256 : 255);
     trial_set_event(t, &event);
 }
 
@@ -263,8 +262,14 @@ static const uint8_t small_lengths[] = {48, 0, 47, 49, 64};
 static const uint8_t truths[] = {0, 1, 2, 255};
 static const struct {
     uint32_t flags;
-    uint8_t reserved_zero[4];
-} strays[] = {{0, {0}}, {UINT32_C(1) << 9, {0}}, {UINT32_C(1) << 31, {0}}, {0, {1}}, {0, {0, 0, 0, 0x80}}};
+    uint8_t reserved_zero[2];
+} strays[] = {{0, {0}}, {UINT32_C(1) << 11, {0}}, {UINT32_C(1) << 31, {0}}, {0, {1}}, {0, {0, 0x80}}};
+
+static void put_stray(struct gg_record *record, uint32_t stray)
+{
+    record->flags |= strays[stray].flags;
+    memcpy(record->reserved_zero, strays[stray].reserved_zero, sizeof record->reserved_zero);
+}
 
 enum { REFUSAL_CASES = PAGE_LENGTHS * 5 * 5 * 4 * 4 * COUNT(strays) * 12 };
 
@@ -278,14 +283,32 @@ static void sweep_refusal(struct random *r, uint64_t index, struct trial *t)
     t->event_len = small_lengths[digit(&index, 5)];
     record.mode = truths[digit(&index, 4)];
     record.recognised = truths[digit(&index, 4)];
-    uint32_t stray = digit(&index, COUNT(strays));
-    record.flags |= strays[stray].flags;
-    memcpy(record.reserved_zero, strays[stray].reserved_zero, sizeof record.reserved_zero);
+    put_stray(&record, digit(&index, COUNT(strays)));
     trial_set_record(t, &record);
     uint32_t kind = digit(&index, 12);
     struct gg_event event = generate_event(r, kind);
     event.kind = (uint8_t)kind;
     trial_set_event(t, &event);
+}
+
+static const uint32_t external_vectors[] = {0xF2, 0x1F2, 256, UINT32_MAX};
+
+enum { EXTERNAL_CASES = PAGE_LENGTHS * DESCRIPTOR_LENGTHS * 5 * 4 * COUNT(strays) * COUNT(external_vectors) };
+
+/* Every pair of reasons to refuse an external interrupt; notification vector F2H or 1F2H. */
+static void sweep_external(struct random *r, uint64_t index, struct trial *t)
+{
+    generate_state(r, t);
+    posting_set(r, t);
+    struct gg_record record = trial_record(t);
+    trial_set_page_length(t, page_lengths[digit(&index, PAGE_LENGTHS)]);
+    t->descriptor_len = descriptor_lengths[digit(&index, DESCRIPTOR_LENGTHS)];
+    t->record_len = small_lengths[digit(&index, 5)];
+    record.mode = truths[digit(&index, 4)];
+    record.notification_vector = random_one_in(r, 2) ? 0xF2 : 0x1F2;
+    put_stray(&record, digit(&index, COUNT(strays)));
+    trial_set_record(t, &record);
+    trial_set_external(t, external_vectors[digit(&index, COUNT(external_vectors))]);
 }
 
 enum { FIELD_CASES = 11 * 6 * 256 * 2 };
@@ -314,32 +337,61 @@ static void sweep_field(struct random *r, uint64_t index, struct trial *t)
     trial_set_event(t, &event);
 }
 
-enum { RESERVED_CASES = 33 * 33 * 9 * 2 };
+/* Puts 32 bits over bytes 12 to 15 of a record: the notification vector, then the reserved bytes. */
+static void put_upper(struct gg_record *record, uint32_t bits)
+{
+    memcpy((uint8_t *)record + offsetof(struct gg_record, notification_vector), &bits, sizeof bits);
+}
+
+/* The nine kinds of event, and the external interrupt after them. */
+enum { ASKED_KINDS = 10, RESERVED_CASES = 33 * 33 * ASKED_KINDS * 2, FLAG_CASES = RESERVED_CASES };
+
+/* An event of a kind with some bits put into its value, or an external interrupt, in either mode. */
+static void ask_by_kind(struct random *r, uint64_t *index, struct trial *t, struct gg_record *record,
+                        uint64_t in_value)
+{
+    uint32_t kind = GG_ENTRY + digit(index, ASKED_KINDS);
+    record->mode = (uint8_t)digit(index, 2);
+    trial_set_record(t, record);
+    struct gg_event event = generate_event(r, kind);
+    event.value |= in_value;
+    trial_set_event(t, &event);
+    if (kind <= GG_REQUEST)
+        return;
+    posting_descriptor(r, t);
+    trial_set_external(t, posting_vector_for(r, t));
+}
 
 /* Every bit of bytes 12 to 15, in the record and in the event, for every kind. */
 static void sweep_reserved(struct random *r, uint64_t index, struct trial *t)
 {
-    uint32_t in_record = one_bit(&index), in_event = one_bit(&index), kind = GG_ENTRY + digit(&index, 9);
+    uint32_t in_record = one_bit(&index), in_event = one_bit(&index);
     generate_state(r, t);
     struct gg_record record = trial_record(t);
-    record.mode = (uint8_t)digit(&index, 2);
-    memcpy(record.reserved_zero, &in_record, sizeof in_record);
-    trial_set_record(t, &record);
-    struct gg_event event = generate_event(r, kind);
-    event.value |= (uint64_t)in_event << 32;
-    trial_set_event(t, &event);
+    put_upper(&record, in_record);
+    ask_by_kind(r, &index, t, &record, (uint64_t)in_event << 32);
+}
+
+/* Every bit of the flags, in the record and in the event, for every kind. */
+static void sweep_flag(struct random *r, uint64_t index, struct trial *t)
+{
+    uint32_t in_record = one_bit(&index), in_event = one_bit(&index);
+    generate_state(r, t);
+    struct gg_record record = trial_record(t);
+    record.flags |= in_record;
+    ask_by_kind(r, &index, t, &record, in_event);
 }
 
 enum { LEAVE_CASES = 33 * 33 * 4 * 4 * COUNT(small_lengths) };
 
-/* Every bit of a record's flags and of its reserved bytes, with every other reason to refuse a leave. */
+/* Every bit of a record's flags and of the bytes after them, with every other reason to refuse a leave. */
 static void sweep_leave(struct random *r, uint64_t index, struct trial *t)
 {
-    uint32_t flag = one_bit(&index), reserved = one_bit(&index);
+    uint32_t flag = one_bit(&index), upper = one_bit(&index);
     generate_state(r, t);
     struct gg_record record = trial_record(t);
     record.flags |= flag;
-    memcpy(record.reserved_zero, &reserved, sizeof reserved);
+    put_upper(&record, upper);
     record.mode = truths[digit(&index, 4)];
     record.recognised = truths[digit(&index, 4)];
     trial_set_record(t, &record);
@@ -357,5 +409,11 @@ const struct sweep sweeps[] = {
     {"leave", LEAVE_CASES, sweep_leave},          {"highest-bit", QUESTION_BITS, question_bit},
     {"highest-pair", QUESTION_PAIRS, question_pair},
     {"highest-base", QUESTION_BASES, question_base},
+    {"posted-alone", POSTING_ALONE, posting_alone},
+    {"posted-pair", POSTING_PAIRS, posting_pair},
+    {"notification", POSTING_NOTIFICATIONS, posting_notification},
+    {"posted-entry", POSTING_ENTRIES, posting_entry},
+    {"external", EXTERNAL_CASES, sweep_external},
+    {"flag", FLAG_CASES, sweep_flag},
     {NULL, 0, NULL},
 };

@@ -26,6 +26,12 @@ static inline uint32_t one_bit(uint64_t *index)
     return (uint32_t)(UINT64_C(1) << digit(index, 33));
 }
 
+/* Controls of a set, each turned on or off by a digit of its own. */
+uint32_t choices(uint64_t *index, uint32_t set);
+
+/* Guest mode under some controls, with vectors in both registers and RVI and SVI at their highest. */
+void busy_guest(struct trial *t, uint32_t controls);
+
 /* The sweeps, ended by one without a name. */
 extern const struct sweep sweeps[];
 

@@ -10,14 +10,14 @@
 #define BIT(answer) (1u << (answer))
 
 static const unsigned exit_reasons[] = {
-    GG_EXIT_INTERRUPT_WINDOW, GG_EXIT_CONTROL_REGISTER, GG_EXIT_TPR_BELOW_THRESHOLD,
-    GG_EXIT_APIC_ACCESS,      GG_EXIT_VIRTUALIZED_EOI,  GG_EXIT_APIC_WRITE,
+    GG_EXIT_EXTERNAL_INTERRUPT,  GG_EXIT_INTERRUPT_WINDOW, GG_EXIT_CONTROL_REGISTER,
+    GG_EXIT_TPR_BELOW_THRESHOLD, GG_EXIT_APIC_ACCESS,      GG_EXIT_VIRTUALIZED_EOI,
+    GG_EXIT_APIC_WRITE,
 };
 
-/* The entry checks; there is no check 5. */
 static const unsigned entry_checks[] = {
-    GG_CHECK_TPR_SHADOW_OFF, GG_CHECK_BOTH_APIC_MODES,    GG_CHECK_EXTERNAL_INTERRUPTS,
-    GG_CHECK_TPR_THRESHOLD,  GG_CHECK_TPR_BELOW_THRESHOLD,
+    GG_CHECK_TPR_SHADOW_OFF, GG_CHECK_BOTH_APIC_MODES,   GG_CHECK_EXTERNAL_INTERRUPTS,
+    GG_CHECK_TPR_THRESHOLD,  GG_CHECK_POSTED_INTERRUPTS, GG_CHECK_TPR_BELOW_THRESHOLD,
 };
 
 /* The answers that each kind can have. */
@@ -33,6 +33,7 @@ static const unsigned possible[ANSWERED_KINDS] = {
     [GG_BOUNDARY] = BIT(GG_REFUSED) | BIT(GG_VM_EXIT) | BIT(GG_DELIVERED) | BIT(GG_QUIET),
     [GG_REQUEST] = BIT(GG_REFUSED) | BIT(GG_QUIET),
     [KIND_LEAVE] = BIT(GG_REFUSED) | BIT(GG_QUIET),
+    [KIND_EXTERNAL] = BIT(GG_REFUSED) | BIT(GG_PASSTHROUGH) | BIT(GG_VM_EXIT) | BIT(GG_QUIET),
 };
 
 static void add_question(struct tally *tally, const struct gg_answer *answer)
@@ -67,11 +68,11 @@ void tally_add(struct tally *tally, const struct trial *before, const struct gg_
 
 static void print_cells(const struct tally *tally)
 {
-    printf("kind by answer (- is impossible):\n  %-13s", "");
+    printf("kind by answer (- is impossible):\n  %-18s", "");
     for (unsigned number = 0; number < ANSWERS; number++)
         printf("%12s", show_answer(number));
     for (unsigned kind = 0; kind < ANSWERED_KINDS; kind++) {
-        printf("\n  %-13s", show_kind(kind));
+        printf("\n  %-18s", show_kind(kind));
         for (unsigned number = 0; number < ANSWERS; number++)
             if (possible[kind] & BIT(number))
                 printf("%12" PRIu64, tally->cells[kind][number]);

@@ -4,7 +4,7 @@
 
 #include "trial.h"
 
-enum { ANSWERS = 7, REASONS = 64, REFUSALS = 5, CHECKS = 7 };
+enum { ANSWERS = 7, REASONS = 64, REFUSALS = 6, CHECKS = 7 };
 
 /* The kinds that have document 01's answers; the question, the last kind, has three of its own. */
 enum { ANSWERED_KINDS = KIND_HIGHEST, HIGHEST_ANSWERS = 3, HIGHEST_REFUSALS = 3 };

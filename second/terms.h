@@ -1,15 +1,18 @@
-/* Document 01's offsets, control bits and answers; the header's kinds of event and answers of the question. */
+/* The documents' offsets, control bits and answers; the header's kinds of event and answers of the question. */
 #ifndef TERMS_H
 #define TERMS_H
 
 #include <stdbool.h>
 #include <stdint.h>
 
-enum { PAGE = 4096 };
+enum { PAGE = 4096, DESCRIPTOR = 64 };
 enum { VTPR = 0x080, VPPR = 0x0A0, VEOI = 0x0B0, VISR = 0x100, VIRR = 0x200 };
 enum { ICR_LOW = 0x300, ICR_HIGH = 0x310 };
-/* Control bit numbers and answers are document 01's; kinds and the question's own answers are the header's. */
-enum { SHADOW, ACCESSES, X2APIC, REGISTERS, DELIVERY, EXTERNAL, WINDOW, CR8_LOAD, CR8_STORE, CONTROLS };
+/* The descriptor's byte whose bit 0 is the outstanding bit, and what a clear of that bit leaves of it. */
+enum { AT_OUTSTANDING = 32, NOT_OUTSTANDING = 0xFE };
+/* Control bit numbers and answers are the documents'; kinds and the question's own answers are the header's. */
+enum { SHADOW, ACCESSES, X2APIC, REGISTERS, DELIVERY, EXTERNAL, WINDOW, CR8_LOAD, CR8_STORE };
+enum { POSTING = CR8_STORE + 1, ACKNOWLEDGE, CONTROLS };
 enum { ENTRY = 1, READ, WRITE, TO_CR8, FROM_CR8, RDMSR, WRMSR, BOUNDARY, REQUEST };
 enum { REFUSED, REDIRECTED, PASSTHROUGH, FAULTED, EXITED, DELIVERED, QUIET };
 enum { HIGHEST_REFUSED, HIGHEST_VECTOR, HIGHEST_NONE };

@@ -18,12 +18,15 @@ void trial_fresh(struct trial *t)
     memset(t->page_bytes + GUARD + GG_PAGE_LENGTH, GUARD_BYTE, TAIL);
     memset(t->record_bytes + GUARD, 0, GG_RECORD_LENGTH);
     memset(t->event_bytes + GUARD, 0, GG_EVENT_LENGTH);
+    memset(t->descriptor_bytes + GUARD, 0, GG_DESCRIPTOR_LENGTH);
     t->operation = TRIAL_STEP;
     t->nulls = 0;
     t->base = 0;
+    t->vector = 0;
     t->page_len = GG_PAGE_LENGTH;
     t->record_len = GG_RECORD_LENGTH;
     t->event_len = GG_EVENT_LENGTH;
+    t->descriptor_len = GG_DESCRIPTOR_LENGTH;
 }
 
 void trial_set_page_length(struct trial *t, size_t page_len)
@@ -42,6 +45,14 @@ void trial_set_nulls(struct trial *t, unsigned nulls)
         t->record_len = 0;
     if (nulls & NULL_EVENT)
         t->event_len = 0;
+    if (nulls & NULL_DESCRIPTOR)
+        t->descriptor_len = 0;
+}
+
+void trial_set_external(struct trial *t, uint32_t vector)
+{
+    t->operation = TRIAL_EXTERNAL;
+    t->vector = vector;
 }
 
 void trial_set_question(struct trial *t, uint32_t base)
@@ -53,6 +64,8 @@ void trial_set_question(struct trial *t, uint32_t base)
 unsigned trial_kind(const struct trial *t)
 {
     uint8_t kind = t->event_bytes[GUARD];
+    if (t->operation == TRIAL_EXTERNAL)
+        return KIND_EXTERNAL;
     if (t->operation == TRIAL_LEAVE)
         return KIND_LEAVE;
     if (t->operation == TRIAL_HIGHEST)
@@ -75,22 +88,35 @@ void trial_copy(struct trial *to, const struct trial *from)
     memcpy(to, from, used(from));
 }
 
-/* Compares by whole words, which an emulator runs faster than the library's own comparison. */
+/* The bits in which the words at two places differ. */
+static uint64_t unequal_at(const unsigned char *left, const unsigned char *right)
+{
+    uint64_t one, other;
+    memcpy(&one, left, sizeof one);
+    memcpy(&other, right, sizeof other);
+    return one ^ other;
+}
+
+enum { FOUR_WORDS = 32 };
+
+/* Compares by whole words, four at once, which an emulator runs faster than the library does. */
 bool trial_same(const struct trial *left, const struct trial *right)
 {
     const unsigned char *a = (const unsigned char *)left, *b = (const unsigned char *)right;
     uint64_t unequal = 0;
-    for (size_t at = 0; at < used(left); at += sizeof unequal) {
-        uint64_t one, other;
-        memcpy(&one, a + at, sizeof one);
-        memcpy(&other, b + at, sizeof other);
-        unequal |= one ^ other;
+    for (size_t rest = used(left); rest > 0; rest -= FOUR_WORDS) {
+        unequal |= unequal_at(a, b) | unequal_at(a + 8, b + 8);
+        unequal |= unequal_at(a + 16, b + 16) | unequal_at(a + 24, b + 24);
+        a += FOUR_WORDS;
+        b += FOUR_WORDS;
     }
     return unequal == 0;
 }
 
-_Static_assert(offsetof(struct trial, page_bytes) % 8 == 0 && (GUARD + GG_PAGE_LENGTH + TAIL) % 8 == 0,
-               "a trial is a whole number of words");
+_Static_assert(offsetof(struct trial, page_bytes) % FOUR_WORDS == 0 &&
+                   (GUARD + GG_PAGE_LENGTH + TAIL) % FOUR_WORDS == 0 &&
+                   (GUARD + PAGE_ROOM + TAIL) % FOUR_WORDS == 0,
+               "what is in use of a trial is a whole number of four words");
 
 struct gg_record trial_record(const struct trial *t)
 {
@@ -128,6 +154,11 @@ void trial_put_word(struct trial *t, uint32_t offset, uint32_t value)
     memcpy(trial_page(t) + offset, &value, sizeof value);
 }
 
+bool trial_is_posted(const struct trial *t, uint32_t vector)
+{
+    return trial_descriptor_of(t)[vector / 8] >> vector % 8 & 1;
+}
+
 unsigned trial_count(const struct trial *t, uint32_t base)
 {
     unsigned count = 0;
@@ -145,14 +176,26 @@ int trial_highest(const struct trial *t, uint32_t base)
     return TRIAL_NONE;
 }
 
-const struct program the_model = {gg_step, gg_leave, gg_highest, gg_fresh};
-const struct program the_second = {second_step, second_leave, second_highest, second_fresh};
+const struct program the_model = {gg_step, gg_external_interrupt, gg_leave, gg_highest, gg_fresh};
+const struct program the_second = {second_step, second_external_interrupt, second_leave, second_highest,
+                                   second_fresh};
+
+static uint32_t interrupt(const struct program *program, struct trial *t, uint8_t *page, uint8_t *record,
+                          struct gg_answer *answer)
+{
+    uint8_t *descriptor = t->nulls & NULL_DESCRIPTOR ? NULL : t->descriptor_bytes + GUARD;
+    return program->external_interrupt(page, t->page_len, record, t->record_len, descriptor,
+                                       t->descriptor_len, (uint32_t)t->vector, &answer->first,
+                                       &answer->second);
+}
 
 static uint32_t ask(const struct program *program, struct trial *t, struct gg_answer *answer)
 {
     uint8_t *page = t->nulls & NULL_PAGE ? NULL : t->page_bytes + GUARD;
     uint8_t *record = t->nulls & NULL_RECORD ? NULL : t->record_bytes + GUARD;
     const uint8_t *event = t->nulls & NULL_EVENT ? NULL : t->event_bytes + GUARD;
+    if (t->operation == TRIAL_EXTERNAL)
+        return interrupt(program, t, page, record, answer);
     if (t->operation == TRIAL_LEAVE)
         return program->leave(record, t->record_len, &answer->first, &answer->second);
     if (t->operation == TRIAL_HIGHEST)

@@ -1,4 +1,4 @@
-/* The workloads: the mix, each kind alone, deep nesting, and the search's two ends. */
+/* The workloads: the mix, each kind alone, deep nesting, the search's two ends, and postings. */
 #include "workload.h"
 
 #include "generate.h"
@@ -117,6 +117,29 @@ static void full(struct workload *w)
     whole_interrupt(w, 0xF0);
 }
 
+/* A notification that finds the outstanding bit and nothing else; the next two post vectors besides. */
+static void posting_none(struct workload *w)
+{
+    w->posts = true;
+    w->count = 1;
+    w->record.flags |= CONTROLS_POSTING;
+    w->record.notification_vector = 0xF2;
+    w->descriptor[32] = 1;
+}
+
+static void posting(struct workload *w)
+{
+    posting_none(w);
+    gg_post(w->descriptor, 0x31);
+    gg_post(w->descriptor, 0x71);
+}
+
+static void posting_full(struct workload *w)
+{
+    posting_none(w);
+    memset(w->descriptor, 0xFF, 32);
+}
+
 static const struct {
     const char *name, *words;
     void (*make)(struct workload *w);
@@ -134,6 +157,9 @@ static const struct {
     {"nesting", "fifteen nested interrupts and their EOIs", nesting},
     {"near-empty", "self-IPI, boundary, EOI over nearly empty registers", near_empty},
     {"full", "self-IPI, boundary, EOI over full registers", full},
+    {"posting-none", "external interrupt with nothing posted", posting_none},
+    {"posting", "external interrupt with two vectors posted", posting},
+    {"posting-full", "external interrupt with every vector posted", posting_full},
 };
 
 void workload_make(struct workload *w, unsigned which)

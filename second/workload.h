@@ -1,4 +1,4 @@
-/* Workloads to time: rounds of events that come back to the state they start from. */
+/* Workloads to time: rounds of events, or of postings, that come back to the state they start from. */
 #ifndef WORKLOAD_H
 #define WORKLOAD_H
 
@@ -14,9 +14,11 @@ struct workload {
     struct gg_event events[MOST_EVENTS];
     unsigned count;
     bool restores_mode; /* the mode byte is put back after every event */
+    bool posts;         /* a round is one posting instead: this descriptor, with the notification vector */
+    uint8_t descriptor[GG_DESCRIPTOR_LENGTH];
 };
 
-enum { WORKLOADS = 13 };
+enum { WORKLOADS = 16 };
 
 void workload_make(struct workload *w, unsigned which);
 
