@@ -13,7 +13,7 @@ GG_STATIC_ASSERT(GG_DESCRIPTOR_LENGTH == 64, "the descriptor is 64 bytes long");
 GG_STATIC_ASSERT(GG_REFUSED_DESCRIPTOR_LENGTH == 5, "another length is refusal 5");
 GG_STATIC_ASSERT(GG_CHECK_POSTED_INTERRUPTS == 5, "posting has check 5");
 GG_STATIC_ASSERT(GG_EXIT_EXTERNAL_INTERRUPT == 1, "an external interrupt is exit 1");
-GG_STATIC_ASSERT(sizeof((struct gg_record *)0)->notification_vector == 2, "the notification vector has 16 bits");
+GG_STATIC_ASSERT(sizeof((struct gg_record *)0)->notification_vector == 2, "a notification vector has 16 bits");
 
 struct gg_answer header(uint8_t *page, struct gg_record *record, uint32_t choice);
 struct gg_answer posting(uint8_t *page, struct gg_record *record, uint8_t *descriptor);
@@ -55,7 +55,8 @@ struct gg_answer posting(uint8_t *page, struct gg_record *record, uint8_t *descr
     if (answer.number == GG_VM_EXIT && answer.first == GG_EXIT_EXTERNAL_INTERRUPT)
         return answer;
     if (gg_post(descriptor, 0x71))
-        answer.number = gg_external_interrupt(page, GG_PAGE_LENGTH, (uint8_t *)record, sizeof *record, descriptor,
-                                              GG_DESCRIPTOR_LENGTH, 0xF2, &answer.first, &answer.second);
+        answer.number =
+            gg_external_interrupt(page, GG_PAGE_LENGTH, (uint8_t *)record, sizeof *record, descriptor,
+                                  GG_DESCRIPTOR_LENGTH, 0xF2, &answer.first, &answer.second);
     return answer;
 }

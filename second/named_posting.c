@@ -39,6 +39,28 @@ static void post_two(struct stage *s)
     expect_true(s, one == 1 && other == 0, "one notification for two postings");
 }
 
+/* The descriptor has this vector and the outstanding bit, which stands behind vector 255, and nothing else. */
+static bool posted_alone(const uint8_t *descriptor, unsigned vector)
+{
+    for (unsigned bit = 0; bit < 8 * GG_DESCRIPTOR_LENGTH; bit++)
+        if ((descriptor[bit / 8] >> bit % 8 & 1) != (bit == vector || bit == 256))
+            return false;
+    return true;
+}
+
+/* The header's posting of every vector, as both programs read it. */
+static void e1_post(struct stage *s)
+{
+    for (unsigned vector = 0; vector < 256; vector++) {
+        notified_guest(s, CONTROLS_P);
+        gg_post(trial_descriptor(&s->now), (uint8_t)vector);
+        expect_true(s, posted_alone(trial_descriptor(&s->now), vector), "one bit posted");
+        stage_external(s, NOTIFICATION);
+        expect_rvi(s, (uint8_t)vector);
+        expect_highest(s, GG_VIRR, (uint8_t)vector);
+    }
+}
+
 /* At VPPR 60, 71 is recognised and delivered, and 31 waits. */
 static void e1(struct stage *s)
 {
@@ -343,6 +365,7 @@ static void kvm_2(struct stage *s)
 
 const struct named_case posting_cases[] = {
     {"E1", e1, "31 and 71 are posted at VPPR 60: 71 is recognised, both are requests"},
+    {"E1-POST", e1_post, "gg_post posts each vector, and that vector is requested"},
     {"E1-NOTHING", e1_nothing, "a notification with nothing posted clears the outstanding bit and evaluates"},
     {"E1-LARGER", e1_larger, "RVI becomes the larger of itself and the highest posted vector"},
     {"E1-CONTROLS", e1_controls, "a posting looks at controls 5, 6 and 9 alone"},
