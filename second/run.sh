@@ -15,6 +15,7 @@ if ! need_archive "$archive"; then
 fi
 
 log=$out/log
+tried=$out/tried
 mkdir -p "$log"
 passed=0
 failed=0
@@ -44,11 +45,30 @@ simulator() {
 
 # find_fault FAULT COMMAND: a fault counts as found only by a reported difference.
 find_fault() {
-    $RUN "$out/compare" --fault "$1" "$2" >"$out/fault.txt"
-    status=$?
-    cat "$out/fault.txt"
-    grep -q '^difference at ' "$out/fault.txt" && return "$status"
+    report=$($RUN "$out/compare" --fault "$1" "$2")
+    found=$?
+    echo "$report"
+    echo "$report" | grep -q '^difference at ' && return "$found"
     return 0
+}
+
+# The comparison and the search for each fault take longest, so two lanes run them beforehand: each takes the next that
+# the other has not, and leaves what it printed and its status.
+lane() {
+    for job in gate $(faults); do
+        mkdir "$tried/$job" 2>/dev/null || continue
+        case $job in
+        gate) $RUN "$out/compare" gate ;;
+        *) find_fault "$job" gate ;;
+        esac >"$tried/$job/out" 2>&1
+        echo $? >"$tried/$job/status"
+    done
+}
+
+# told JOB: what a lane has left of it; a job that none has finished is a failure of its own
+told() {
+    cat "$tried/$1/out"
+    return "$(cat "$tried/$1/status" 2>/dev/null || echo 2)"
 }
 
 # says NAME WORDS...: the report that a check left has a line for each of the words
@@ -69,13 +89,17 @@ rm -f "$out/compare" "$out/bench" "$out/simulator"
 expect 0 header-c build_header_c
 expect 0 header-cpp build_header_cpp
 expect 0 build-compare build_compare "$archive"
-expect 0 gate $RUN "$out/compare" gate
+rm -rf "$tried" && mkdir "$tried"
+lane &
+lane
+wait
+expect 0 gate told gate
 expect 0 named $RUN "$out/compare" named
 expect 0 null $RUN "$out/compare" null
 expect 0 matters $RUN "$out/compare" matters
-expect 0 fault-list sh -c '[ "$1" -ge 14 ]' - "$(faults | wc -l)"
+expect 0 fault-list sh -c '[ "$1" -ge 95 ]' - "$(faults | wc -l)"
 for fault in $(faults); do
-    expect 1 "fault-$fault" find_fault "$fault" gate
+    expect 1 "fault-$fault" told "$fault"
 done
 expect 0 report-none says fault-none-is-zero '^  VI[SR]R: none$' '^  model  answers 2 none,' '^  second answers 1 vector 00H,'
 expect 0 report-zero says fault-zero-is-none '^  VI[SR]R: 00H$' '^  model  answers 1 vector 00H,' '^  second answers 2 none,'

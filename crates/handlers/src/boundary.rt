@@ -3,6 +3,8 @@ ghost use mathlib.Core.Path.{_≡_};
 ghost use Rattle.meaning.specs.After.{Leaves};
 ghost use Rattle.meaning.specs.Boundary.{deliveredPage, delivery as deliveryOf, boundaryAt, boundary as boundaryOf};
 use events::answer::Outcome;
+use priorities::procedures::low_cleared;
+use priorities::procedures::open_boundary;
 use procedures::outcome::delivered;
 use procedures::outcome::exit;
 use procedures::outcome::quiet;
@@ -14,8 +16,6 @@ use processor::offsets::VPPR;
 use registers::found::NONE_COUNTS_AS;
 use registers::vectors::highest_request;
 use registers::vectors::put_vector;
-use rules::procedures::low_cleared;
-use rules::procedures::open_boundary;
 use stores::bytes::set_word;
 
 fn move_to_service(page: &mut [u8], vector: u8)

@@ -7,6 +7,7 @@ use instructions::cr8::TO_CR8;
 use instructions::cr8::cr8_access;
 use instructions::cr8::cr8_qualification;
 use page::bytes::byte_at;
+use priorities::procedures::class_of;
 use procedures::outcome::exit;
 use procedures::outcome::passthrough;
 use procedures::outcome::redirected;
@@ -16,7 +17,6 @@ use processor::controls::CR8_LOAD_EXITING;
 use processor::controls::CR8_STORE_EXITING;
 use processor::controls::Record;
 use processor::offsets::VTPR;
-use rules::procedures::class_of;
 use stores::bytes::set_word;
 
 pub fn mov_to_cr8(page: &mut [u8], record: Record, value: u8, register: u8) -> Outcome

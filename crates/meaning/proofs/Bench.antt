@@ -7,7 +7,7 @@ use Rattle.rules.specs.EntryChecks.{failingCheck}
 use Rattle.accesses.specs.Accesses.{openOffset, memoryAccess, readQualification, writeFollowing}
 use Rattle.instructions.specs.Instructions.{cr8Access, wrmsrFollowing, wrmsr}
 use Rattle.processor.specs.Logic.{larger}
-use Rattle.rules.specs.Priorities.{ppr}
+use Rattle.priorities.specs.Priorities.{ppr}
 use Rattle.page.specs.Page.{halfAt, wordAt, longAt, readAt}
 use Rattle.stores.specs.Stores.{setHalf, setWord, setLong, storeAt}
 use Rattle.registers.specs.Vectors.{isSet, putVector, highestOf, highest}

@@ -24,7 +24,7 @@ use Rattle.events.specs.Events.{offsetInBounds, sizeInBounds, valueInBounds, ev
 use Rattle.events.specs.declared.event.Event.{Event}
 use Rattle.events.specs.declared.event.Event.the-variants.{Entry, Request, MemoryRead, MemoryWrite, ToCr8, FromCr8, Rdmsr, Wrmsr, Boundary}
 use Rattle.rules.specs.EntryChecks.{exitsAtEntry}
-use Rattle.rules.specs.Priorities.{belowThreshold, openBoundary}
+use Rattle.priorities.specs.Priorities.{belowThreshold, openBoundary}
 use Rattle.accesses.specs.Accesses.{openOffset, pastRegister, accessExits, memoryAccess, readQualification, writeQualification, selfIpi, inRegister, writeFollowing}
 use Rattle.accesses.specs.declared.memory.Following.the-variants.{Tpr, Eoi, SelfIpi, IcrHigh, ApicWrite}
 use Rattle.instructions.specs.Instructions.{toCr8, fromCr8, toCr8Qualification, fromCr8Qualification, rdmsrRedirected, msrOffset, wrmsrHandled, wrmsrFaults, wrmsrFollowing, wrmsr}

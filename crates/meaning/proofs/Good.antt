@@ -11,7 +11,7 @@ use Rattle.processor.specs.Logic.{if_then_else_, larger, member}
 use Rattle.events.specs.declared.answer.Numbers.{Numbers}
 use Rattle.events.specs.Answers.{numbers}
 use Rattle.processor.specs.Controls.{virtualDelivery, eoiExit, interruptWindowExiting, withGuest, withRvi, withSvi, withRecognised, withControls}
-use Rattle.rules.specs.Priorities.{class, lowCleared, ppr, evaluated}
+use Rattle.priorities.specs.Priorities.{class, lowCleared, ppr, evaluated}
 use Rattle.processor.specs.declared.controls.Controls.{Controls}
 use Rattle.processor.specs.declared.controls.Record.{Record}
 use Rattle.events.specs.declared.event.Event.{Event}

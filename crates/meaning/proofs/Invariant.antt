@@ -9,7 +9,7 @@ use lib.ListN.{getD, replicate, length-replicate}
 use borrow.Author.Tests.{ltb-true}
 use Rattle.processor.specs.Logic.{allBelow, member}
 use Rattle.processor.specs.Controls.{interruptWindowExiting}
-use Rattle.rules.specs.Priorities.{class}
+use Rattle.priorities.specs.Priorities.{class}
 use Rattle.processor.proofs.Tests.{below, left, right}
 use Rattle.processor.specs.Offsets.{vppr, visr, virr}
 use Rattle.page.specs.Page.{byteAt, IsPage}

@@ -9,7 +9,7 @@ use lib.Dec.{eqb, ltb}
 use lib.ListN.{length}
 use borrow.Author.Tests.{eqb-true, eq-eqb, lt-ltb, le-ltb}
 use Rattle.processor.specs.Logic.{if_then_else_, member}
-use Rattle.rules.specs.Priorities.{class}
+use Rattle.priorities.specs.Priorities.{class}
 use Rattle.registers.proofs.Top.{top, top-unique, top-none}
 use Rattle.registers.specs.Vectors.{put}
 use Rattle.meaning.specs.History.{rest}

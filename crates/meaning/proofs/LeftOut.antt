@@ -12,7 +12,7 @@ use Rattle.events.specs.Answers.{numbers}
 use Rattle.events.specs.declared.answer.Numbers.{Numbers}
 use Rattle.events.specs.declared.answer.Refusal.the-variants.{None}
 use Rattle.events.specs.declared.event.Event.the-variants.{Boundary}
-use Rattle.rules.specs.Priorities.{openBoundary}
+use Rattle.priorities.specs.Priorities.{openBoundary}
 use Rattle.meaning.specs.Input.{Input, given}
 use Rattle.meaning.specs.After.{exit, quiet}
 use Rattle.meaning.specs.Boundary.{delivery, boundaryAt, boundary, matters}

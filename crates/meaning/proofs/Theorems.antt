@@ -7,7 +7,7 @@ use mathlib.Core.Bool.{Bool, true, false}
 use mathlib.Core.List.{List, [], _∷_}
 use lib.Dec.{eqb}
 use Rattle.processor.specs.Logic.{if_then_else_, member}
-use Rattle.rules.specs.Priorities.{class}
+use Rattle.priorities.specs.Priorities.{class}
 use Rattle.meaning.specs.Input.{Input}
 use Rattle.processor.specs.Offsets.{visr}
 use Rattle.registers.specs.Vectors.{isSet, put}

@@ -4,7 +4,7 @@ use mathlib.Core.Bool.{Bool, false, _&&_, _||_}
 use mathlib.Core.List.{List}
 use Rattle.processor.specs.Logic.{if_then_else_}
 use Rattle.processor.specs.Controls.{interruptWindowExiting, withRvi, withSvi, withRecognised}
-use Rattle.rules.specs.Priorities.{lowCleared, openBoundary}
+use Rattle.priorities.specs.Priorities.{lowCleared, openBoundary}
 use Rattle.processor.specs.declared.controls.Record.{Record}
 use Rattle.processor.specs.Offsets.{vppr, visr, virr}
 use Rattle.stores.specs.Stores.{setWord}

@@ -6,7 +6,7 @@ use mathlib.Core.List.{List, [], _∷_}
 use lib.Dec.{ltb}
 use Rattle.processor.specs.Logic.{if_then_else_, member}
 use Rattle.processor.specs.Controls.{interruptWindowExiting}
-use Rattle.rules.specs.Priorities.{class}
+use Rattle.priorities.specs.Priorities.{class}
 use Rattle.meaning.specs.Input.{Input}
 use Rattle.processor.specs.Offsets.{vppr, visr, virr}
 use Rattle.page.specs.Page.{byteAt}

@@ -2,7 +2,7 @@
 use Prim.Native.Nat.{ℕ, _*_, _%_}
 use mathlib.Core.List.{List}
 use Rattle.processor.specs.Logic.{if_then_else_}
-use Rattle.rules.specs.Priorities.{class}
+use Rattle.priorities.specs.Priorities.{class}
 use Rattle.instructions.specs.Instructions.{toCr8, fromCr8, toCr8Qualification, fromCr8Qualification, rdmsrRedirected, msrOffset, wrmsr}
 use Rattle.processor.specs.declared.controls.Record.{Record}
 use Rattle.processor.specs.declared.access.Access.{Access}

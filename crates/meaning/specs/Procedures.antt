@@ -3,7 +3,7 @@ use Prim.Native.Nat.{ℕ}
 use mathlib.Core.List.{List}
 use Rattle.processor.specs.Logic.{if_then_else_, larger}
 use Rattle.processor.specs.Controls.{virtualDelivery, eoiExit, withRvi, withSvi, withRecognised}
-use Rattle.rules.specs.Priorities.{ppr, belowThreshold, evaluated}
+use Rattle.priorities.specs.Priorities.{ppr, belowThreshold, evaluated}
 use Rattle.processor.specs.declared.controls.Record.{Record}
 use Rattle.processor.specs.Offsets.{vtpr, vppr, visr, virr}
 use Rattle.page.specs.Page.{byteAt}

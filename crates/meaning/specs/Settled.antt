@@ -5,7 +5,7 @@ use mathlib.Core.Bool.{true, false}
 use mathlib.Core.List.{List}
 use Rattle.processor.specs.Logic.{if_then_else_}
 use Rattle.processor.specs.Controls.{virtualDelivery}
-use Rattle.rules.specs.Priorities.{class, evaluated}
+use Rattle.priorities.specs.Priorities.{class, evaluated}
 use Rattle.processor.specs.declared.controls.Record.{Record}
 use Rattle.processor.specs.Offsets.{vppr}
 use Rattle.page.specs.Page.{byteAt}

@@ -8,6 +8,10 @@ use crate::outcome::exit;
 use crate::outcome::quiet;
 use events::answer::Outcome;
 use page::bytes::byte_at;
+use priorities::procedures::below_threshold;
+use priorities::procedures::evaluates;
+use priorities::procedures::larger_of;
+use priorities::procedures::ppr_of;
 use processor::controls::Record;
 use processor::controls::VIRTUAL_DELIVERY;
 use processor::offsets::VIRR;
@@ -17,10 +21,6 @@ use processor::offsets::VTPR;
 use registers::found::NONE_COUNTS_AS;
 use registers::vectors::highest_service;
 use registers::vectors::put_vector;
-use rules::procedures::below_threshold;
-use rules::procedures::evaluates;
-use rules::procedures::larger_of;
-use rules::procedures::ppr_of;
 use stores::bytes::set_word;
 
 // VPPR from VTPR and SVI.

@@ -4,7 +4,7 @@ use mathlib.Core.Bool.{Bool, not, _&&_, _||_}
 use lib.Dec.{ltb}
 use Rattle.processor.specs.Logic.{if_then_else_}
 use Rattle.processor.specs.Controls.{useTprShadow, virtualizeApicAccesses, virtualizeX2apicMode, apicRegisterVirtualization, virtualDelivery, externalInterruptExiting, processPostedInterrupts, acknowledgeOnExit}
-use Rattle.rules.specs.Priorities.{class}
+use Rattle.priorities.specs.Priorities.{class}
 use Rattle.processor.specs.declared.controls.Controls.{Controls}
 
 -- 1, TPR shadow off while any of controls 2, 3, 4 is on

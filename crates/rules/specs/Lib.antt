@@ -1,2 +1,1 @@
 pub mod EntryChecks
-pub mod Priorities

@@ -1,4 +1,2 @@
-// What is decided from numbers alone: the entry checks, priority classes, and what the five procedures and the boundary ask.
-// Nothing here holds a page.
+// The entry checks, and when exit 43 follows an entry at once. Nothing here holds a page.
 pub mod entry;
-pub mod procedures;

@@ -6,7 +6,7 @@ use Rattle.events.specs.Events.{valueInBounds, eventInBounds, rootOnly, allowed
 use Rattle.rules.specs.EntryChecks.{failingCheck}
 use Rattle.accesses.specs.Accesses.{openOffset, memoryAccess, writeFollowing}
 use Rattle.processor.specs.Logic.{larger}
-use Rattle.rules.specs.Priorities.{ppr}
+use Rattle.priorities.specs.Priorities.{ppr}
 use Rattle.page.specs.Page.{wordAt}
 use Rattle.stores.specs.Stores.{setWord, storeAt}
 use Rattle.registers.specs.Vectors.{isSet, putVector, highestOf, highest}

@@ -1,8 +1,8 @@
--- `rules::procedures::larger_of` meets its contract: code and definition take the same cases. Assumes nothing.
+-- `priorities::procedures::larger_of` meets its contract: code and definition take the same cases. Assumes nothing.
 use borrow.Author.Tests.{le-ltb, lt-ltb}
 use Rattle.processor.specs.Logic.{larger}
-use Rattle.rules.proofs.procedures.larger_of.Statement.{statement}
-use Rattle.rules.proofs.procedures.larger_of.Tie as tie
+use Rattle.priorities.proofs.procedures.larger_of.Statement.{statement}
+use Rattle.priorities.proofs.procedures.larger_of.Tie as tie
 
 returns : tie.Need-returns
 unfolding larger

@@ -1,8 +1,8 @@
--- `rules::procedures::ppr_of` meets its contract: code and definition take the same cases. Assumes nothing.
+-- `priorities::procedures::ppr_of` meets its contract: code and definition take the same cases. Assumes nothing.
 use borrow.Author.Tests.{le-leb, lt-leb}
-use Rattle.rules.specs.Priorities.{ppr}
-use Rattle.rules.proofs.procedures.ppr_of.Statement.{statement}
-use Rattle.rules.proofs.procedures.ppr_of.Tie as tie
+use Rattle.priorities.specs.Priorities.{ppr}
+use Rattle.priorities.proofs.procedures.ppr_of.Statement.{statement}
+use Rattle.priorities.proofs.procedures.ppr_of.Tie as tie
 
 returns : tie.Need-returns
 unfolding ppr

@@ -1,7 +1,7 @@
 // What the five procedures and the boundary decide from numbers alone.
 ghost use mathlib.Core.Path.{_≡_};
 ghost use Rattle.processor.specs.Logic.{larger};
-ghost use Rattle.rules.specs.Priorities.{class, lowCleared, ppr, belowThreshold, evaluated, openBoundary};
+ghost use Rattle.priorities.specs.Priorities.{class, lowCleared, ppr, belowThreshold, evaluated, openBoundary};
 use processor::controls::Controls;
 use processor::controls::INTERRUPT_WINDOW_EXITING;
 
