@@ -1,5 +1,4 @@
--- Every bench case, every row of an external interrupt and every row of the search holds of the definitions: a claim each, computed.
--- Assumes nothing.
+-- Every bench case and every row of an external interrupt holds of the definitions: a claim each, computed. Assumes nothing.
 use lib.Dec.{T}
 use Rattle.processor.specs.Controls.{eoiExitWord}
 use Rattle.events.specs.Events.{valueInBounds, eventInBounds, rootOnly, allowed}
@@ -21,7 +20,7 @@ use Rattle.meaning.specs.External.{postedRecord, posting, externalInterr
 use Rattle.meaning.specs.Leave.{left}
 use Rattle.meaning.specs.Refusals.{refusalOf}
 use Rattle.meaning.specs.Step.{eventOut, carriedOut, stepBy, step, descriptorAfter}
-use Rattle.meaning.specs.Bench.{rowHolds, rowsHold, benchRows, interruptsHold, interruptRows, searchesHold, searchRows}
+use Rattle.meaning.specs.Bench.{rowHolds, rowsHold, benchRows, interruptsHold, interruptRows}
 
 pub every-row-holds : T (rowsHold benchRows)
 unfolding eoiExitWord valueInBounds eventInBounds rootOnly allowed failingCheck openOffset memoryAccess readQualification writeFollowing cr8Access wrmsrFollowing wrmsr ppr larger halfAt wordAt longAt readAt setHalf setWord setLong storeAt isSet putVector highestOf highest pprVirtualization evaluation evaluatedQuiet tprVirtualization retiredPage retiredRecord eoiEnd eoiVirtualization requestedPage requestedRecord selfIpiVirtualization entered entry request readBy memoryRead clearThree followBy written writeBy memoryWrite toCr8By movToCr8 fromCr8By movFromCr8 readMsr writeMsrBy writeMsr deliveredPage deliveredRecord delivery boundaryAt boundary posted raisedBy joinedBelow postedRecord posting externalInterrupt left refusalOf eventOut carriedOut stepBy step rowHolds
@@ -30,7 +29,3 @@ every-row-holds = tt
 pub every-interrupt-holds : T (interruptsHold interruptRows)
 unfolding larger wordAt isSet putVector highestOf evaluation evaluatedQuiet posted raisedBy joinedBelow clearedBelow cleared postedRecord posting externalInterrupt descriptorOut descriptorBy refusalOf carriedOut stepBy step descriptorAfter rowHolds
 every-interrupt-holds = tt
-
-pub every-search-holds : T (searchesHold searchRows)
-unfolding isSet putVector highestOf
-every-search-holds = tt

@@ -1,6 +1,5 @@
 -- Document 01, "Bench cases" K1 to K12, one of the guest that leaves, both sides of E2 of document 02, and E1 of it, as rows of one table:
--- where a row starts, what is done, and what must come of it. Then rows of an external interrupt with its descriptor, and rows of the
--- search: what it finds on a page.
+-- where a row starts, what is done, and what must come of it. Then rows of an external interrupt with its descriptor.
 use Prim.Native.Nat.{ℕ}
 use mathlib.Core.Bool.{Bool, true, false, _&&_, Bool·beq}
 use mathlib.Core.List.{List, [], _∷_, _++_}
@@ -15,9 +14,7 @@ use Rattle.events.specs.declared.event.Event.the-variants.{Entry, Request, Memo
 use Rattle.processor.specs.Offsets.{vtpr, vppr, virr, visr}
 use Rattle.page.specs.Page.{wordAt}
 use Rattle.stores.specs.Stores.{setByte}
-use Rattle.registers.specs.declared.found.Found.{Found}
-use Rattle.registers.specs.declared.found.Found.the-variants.{None, Vector}
-use Rattle.registers.specs.Vectors.{setVector, highestSet}
+use Rattle.registers.specs.Vectors.{setVector}
 use Rattle.meaning.specs.Input.{Input, given, external, leaves}
 use Rattle.meaning.specs.Procedures.{pprVirtualization}
 use Rattle.meaning.specs.Step.{descriptorAfter}
@@ -317,12 +314,11 @@ twoPosted = setByte (setByte (unposted 0xff) 6 0x02) 14 0x02
 abbrev controlsP : Controls
 controlsP = notified 0xf2 0x633 0
 
--- two vectors posted to a running guest: the higher is delivered first, the other after the EOI
+-- two vectors posted to a running guest: the higher is delivered, the other waits
 abbrev pub postedRun : Row
 postedRun =
-    fromFresh (given (Entry controlsP) ∷ external twoPosted 0xf2 ∷ each (boundaryOpen ∷ MemoryWrite 0x0b0 4 false false 0 ∷ boundaryOpen ∷ []))
-    (quiet ∷ quiet ∷ delivered 0x71 ∷ quiet ∷ delivered 0x31 ∷ []) (stateOf true 0 0x31 false controlsP)
-    (word 0x110 0x0002_0000 ∷ word 0x130 0 ∷ word 0x0a0 0x30 ∷ noRequest)
+    fromFresh (given (Entry controlsP) ∷ external twoPosted 0xf2 ∷ given boundaryOpen ∷ []) (quiet ∷ quiet ∷ delivered 0x71 ∷ [])
+    (stateOf true 0x31 0x71 false controlsP) (word 0x130 0x0002_0000 ∷ word 0x210 0x0002_0000 ∷ word 0x230 0 ∷ word 0x0a0 0x70 ∷ [])
 
 -- K1 to K12, the guest that leaves, both sides of E2, and E1
 abbrev pub benchRows : List Row
@@ -398,34 +394,3 @@ interruptRows =
     untouched (interrupted true 0 false (notified 0x100 0x633 0)) twoPosted 0x100 (refused 2 0) ∷
     untouched (interrupted false 0 false (notified 0x100 0x633 0)) twoPosted 0x100 (refused 2 0) ∷
     untouched (interrupted true 0 false (notified 0xf2 0xe33 0)) twoPosted 0xf2 (refused 2 0) ∷ []
-
--- a row of the search: a page, a register's base, and what is found there
-pub record Search : Type 0 where
-  pub page : List ℕ
-  pub base : ℕ
-  pub found : Found
-
-abbrev pub sameFound : Found → Found → Bool
-sameFound None None = true
-sameFound None (Vector w) = false
-sameFound (Vector v) None = false
-sameFound (Vector v) (Vector w) = eqb v w
-
-abbrev pub searchesHold : List Search → Bool
-searchesHold [] = true
-searchesHold (s ∷ rows) = sameFound (highestSet (s .page) (s .base)) (s .found) && searchesHold rows
-
-abbrev searched : List ℕ → ℕ → Found → Search
-searched p base found = record { page = p; base = base; found = found }
-
--- one bit of VIRR alone: that vector there, and none in VISR; and the same with the registers changed about
-abbrev bitAlone : ℕ → List Search
-bitAlone v =
-    searched (setVector zeroPage virr v) virr (Vector v) ∷ searched (setVector zeroPage virr v) visr None ∷
-    searched (setVector zeroPage visr v) visr (Vector v) ∷ searched (setVector zeroPage visr v) virr None ∷ []
-
--- an empty register is none; bit 0 alone is vector 0; bit 255 alone; every bit
-abbrev pub searchRows : List Search
-searchRows =
-    (searched zeroPage virr None ∷ searched zeroPage visr None ∷ []) ++ bitAlone 0 ++ bitAlone 255 ++
-    (searched (replicate 4096 0xff) virr (Vector 255) ∷ searched (replicate 4096 0xff) visr (Vector 255) ∷ [])

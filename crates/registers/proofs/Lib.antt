@@ -5,3 +5,4 @@ pub mod Highest
 pub mod Finds
 pub mod Top
 pub mod Words
+pub mod Searches
