@@ -1,5 +1,5 @@
--- Condition 1 of the tender, document 01, "What comes back", and E1 of document 02: which inputs are refused, and what each answer leaves, on any page
--- slice and any record.
+-- Condition 1 of the tender, document 01, "What comes back", and E1 of document 02: which inputs are refused, and what each answer
+-- leaves, on any page slice, any record and any descriptor slice.
 use Prim.Native.Nat.{ℕ, _/_, _<_}
 use mathlib.Core.Path.{_≡_}
 use mathlib.Core.Bool.{Bool, true, false, _&&_}

@@ -1,5 +1,5 @@
--- Document 01, "What comes back", with E1 of document 02: the refusals, in the order in which they are tested. An input gets the first that applies, with its
--- check, or none.
+-- Document 01, "What comes back", with E1 of document 02: the refusals, in the order in which they are tested. An input gets the first
+-- that applies, with its check, or none.
 use Prim.Native.Nat.{ℕ}
 use mathlib.Core.Bool.{Bool, true, not, _&&_}
 use mathlib.Core.List.{List}
