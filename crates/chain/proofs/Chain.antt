@@ -26,10 +26,11 @@ use Rattle.meaning.proofs.Condition1.{nothing-changes}
 use Rattle.meaning.proofs.Laws.{laws, fits}
 use Rattle.meaning.proofs.Invariant.{start-inv}
 use Rattle.descriptor.specs.Descriptor.{descriptorFits}
-use Rattle.layout.specs.RecordBytes.{controlsOf, controlsBytes, reservedZero, recordReadable, recordOf, truthByte, recordBytes, bytesOf, kept}
-use Rattle.replies.specs.EventBytes.{eventReadable, memoryReadOf, memoryWriteOf, toCr8Of, wrmsrOf, boundaryOf, requestOf, eventOf}
+use Rattle.layout.specs.RecordBytes.{controlsOf, reservedZero, recordReadable, recordOf}
+use Rattle.keeping.specs.KeptBytes.{controlsBytes, truthByte, recordBytes, bytesOf, kept}
+use Rattle.layout.specs.EventBytes.{eventReadable, memoryReadOf, memoryWriteOf, toCr8Of, wrmsrOf, boundaryOf, requestOf, eventOf}
 use Rattle.replies.specs.Replies.{Reply, refused, replied, modelReply, ggStep, externalReply, ggExternalInterrupt, leaveReply, ggLeave}
-use Rattle.layout.proofs.RoundTrip.{stored-length, read-back, stored-readable, stored-over}
+use Rattle.keeping.proofs.RoundTrip.{stored-length, read-back, stored-readable, stored-over}
 use Rattle.chain.specs.Chain.{Call, steps, interrupts, leave, Lent, begin, replyTo, chain, brought, canBeRead, inputOf, inputs, told, CallBytes, AllBytes, heldOf, IsRun, LeavesDescriptor}
 
 -- ---- an entry's controls, read from bytes, fit

@@ -21,10 +21,11 @@ use Rattle.meaning.specs.Condition1.{ExternalAnswered}
 use Rattle.meaning.proofs.Condition1.{nothing-changes, external-answered}
 use Rattle.meaning.proofs.Invariant.{run-inv, start-inv}
 use Rattle.meaning.proofs.Theorems.{rvi-svi-highest, recognised-exactly, in-service-exactly, classes-rise, eoi-retires-latest, nothing-else-retires, at-most-15, none-below-16}
-use Rattle.layout.specs.RecordBytes.{recordReadable, recordOf, recordBytes, kept}
-use Rattle.replies.specs.EventBytes.{eventReadable, eventOf}
+use Rattle.layout.specs.RecordBytes.{recordReadable, recordOf}
+use Rattle.keeping.specs.KeptBytes.{recordBytes, kept}
+use Rattle.layout.specs.EventBytes.{eventReadable, eventOf}
 use Rattle.replies.specs.Replies.{LentReply, refused, refusedLent, replied, modelReply, ggStep, externalReply, ggExternalInterrupt, leaveReply, ggLeave}
-use Rattle.capi.specs.Calls.{foundNumbers, ggHighest}
+use Rattle.calls.specs.Calls.{foundNumbers, ggHighest}
 use Rattle.chain.specs.Chain.{Call, begin, chain, inputs, AllBytes, heldOf, Tells, vector, none, Asked, Untouched, UntouchedLent}
 use Rattle.chain.proofs.Chain.{chain-is-run}
 

@@ -13,10 +13,11 @@ use Rattle.page.specs.Page.{byteAt}
 use Rattle.meaning.specs.Input.{Input, given, external, leaves}
 use Rattle.meaning.specs.Step.{descriptorAfter}
 use Rattle.meaning.specs.Run.{zeroPage, Held, start, stepOf, heldAfter, after}
-use Rattle.layout.specs.RecordBytes.{recordReadable, recordOf, bytesOf}
-use Rattle.replies.specs.EventBytes.{eventReadable, eventOf}
+use Rattle.layout.specs.RecordBytes.{recordReadable, recordOf}
+use Rattle.keeping.specs.KeptBytes.{bytesOf}
+use Rattle.layout.specs.EventBytes.{eventReadable, eventOf}
 use Rattle.replies.specs.Replies.{Reply, LentReply, ggStep, ggExternalInterrupt, ggLeave}
-use Rattle.capi.specs.Calls.{ggHighest}
+use Rattle.calls.specs.Calls.{ggHighest}
 
 -- gg_step on an event's bytes, gg_external_interrupt with a descriptor's bytes and a vector, or gg_leave
 pub data Call : Type 0 where

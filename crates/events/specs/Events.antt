@@ -12,6 +12,10 @@ use Rattle.events.specs.declared.event.Event.the-variants.{Entry, Reques
 abbrev pub offsetInBounds : ℕ → Bool
 offsetInBounds offset = ltb offset 4096
 
+-- a vector 0 to 255
+abbrev pub vectorInBounds : ℕ → Bool
+vectorInBounds vector = ltb vector 256
+
 -- Sizes are 1, 2, 4, 8.
 abbrev pub sizeInBounds : ℕ → Bool
 sizeInBounds size = eqb size 1 || eqb size 2 || eqb size 4 || eqb size 8
@@ -31,7 +35,7 @@ activityInBounds activity = ltb activity 4
 -- Every field of the event is within its bounds; of a write, the fetch flag must be off.
 unfoldable pub eventInBounds : Event → Bool
 eventInBounds (Entry controls) = flagsInBounds controls
-eventInBounds (Request vector) = ltb vector 256
+eventInBounds (Request vector) = vectorInBounds vector
 eventInBounds (MemoryRead offset size fetch already) = offsetInBounds offset && sizeInBounds size
 eventInBounds (MemoryWrite offset size fetch already value) = offsetInBounds offset && valueInBounds size value && not fetch
 eventInBounds (ToCr8 value register) = cr8InBounds value && cr8InBounds register

@@ -1,7 +1,7 @@
 // The bounds of an event's fields.
 ghost use mathlib.Core.Path.{_≡_};
 ghost use mathlib.Core.Bool.{not, _&&_};
-ghost use Rattle.events.specs.Events.{offsetInBounds, sizeInBounds, valueInBounds};
+ghost use Rattle.events.specs.Events.{vectorInBounds, offsetInBounds, sizeInBounds, valueInBounds};
 
 // How many there are: vectors, offsets on a page, CR8 values, registers, activities.
 pub const VECTORS: u16 = 256;
@@ -13,6 +13,13 @@ pub const CR8_VALUES: u8 = 16;
 pub const REGISTERS: u8 = 16;
 
 pub const ACTIVITIES: u8 = 4;
+
+// A vector asked for, at the width of any call.
+pub fn vector_in_bounds(vector: u32) -> bool
+    ensures { λ r. ⌜ r ≡ vectorInBounds vector ⌝ }
+{
+    vector < VECTORS as u32
+}
 
 fn size_in_bounds(size: u8) -> bool
     ensures { λ r. ⌜ r ≡ sizeInBounds size ⌝ }

@@ -4,9 +4,9 @@ ghost use Rattle.events.specs.Events.{eventInBounds, inBounds, rootOnly,
 use crate::bounds::ACTIVITIES;
 use crate::bounds::CR8_VALUES;
 use crate::bounds::REGISTERS;
-use crate::bounds::VECTORS;
 use crate::bounds::memory_read_in_bounds;
 use crate::bounds::memory_write_in_bounds;
+use crate::bounds::vector_in_bounds;
 use processor::controls::Controls;
 use processor::controls::Record;
 
@@ -50,7 +50,7 @@ fn event_in_bounds(event: Event) -> bool
 {
     match event {
         Event::Entry(controls) => controls.flags_in_bounds(),
-        Event::Request(vector) => vector < VECTORS,
+        Event::Request(vector) => vector_in_bounds(vector as u32),
         Event::MemoryRead {
             offset,
             size,

@@ -5,6 +5,7 @@ ghost use Rattle.meaning.specs.Boundary.{deliveredPage, delivery as deliveryOf,
 use events::answer::Outcome;
 use priorities::procedures::low_cleared;
 use priorities::procedures::open_boundary;
+use procedures::delivery::delivered_record;
 use procedures::outcome::delivered;
 use procedures::outcome::exit;
 use procedures::outcome::quiet;
@@ -13,8 +14,6 @@ use processor::controls::Record;
 use processor::offsets::VIRR;
 use processor::offsets::VISR;
 use processor::offsets::VPPR;
-use registers::found::NONE_COUNTS_AS;
-use registers::vectors::highest_request;
 use registers::vectors::put_vector;
 use stores::bytes::set_word;
 
@@ -31,11 +30,7 @@ fn delivery(page: &mut [u8], record: Record) -> Outcome
 {
     let vector = record.rvi;
     move_to_service(page, vector);
-    let mut next = record;
-    next.svi = vector;
-    next.rvi = highest_request(page).or(NONE_COUNTS_AS);
-    next.recognised = false;
-    delivered(next, vector)
+    delivered(delivered_record(page, record), vector)
 }
 
 fn boundary_at(page: &mut [u8], record: Record, is_open: bool) -> Outcome

@@ -2,10 +2,10 @@
 ghost use Rattle.meaning.specs.After.{Leaves};
 ghost use Rattle.meaning.specs.Cr8Msr.{movToCr8, movFromCr8};
 use events::answer::Outcome;
-use instructions::cr8::FROM_CR8;
-use instructions::cr8::TO_CR8;
-use instructions::cr8::cr8_access;
-use instructions::cr8::cr8_qualification;
+use instructions::cr8::from_cr8;
+use instructions::cr8::from_cr8_qualification;
+use instructions::cr8::to_cr8;
+use instructions::cr8::to_cr8_qualification;
 use page::bytes::byte_at;
 use priorities::procedures::class_of;
 use procedures::outcome::exit;
@@ -13,8 +13,6 @@ use procedures::outcome::passthrough;
 use procedures::outcome::redirected;
 use procedures::virtualization::tpr_virtualization;
 use processor::access::Access;
-use processor::controls::CR8_LOAD_EXITING;
-use processor::controls::CR8_STORE_EXITING;
 use processor::controls::Record;
 use processor::offsets::VTPR;
 use stores::bytes::set_word;
@@ -22,11 +20,10 @@ use stores::bytes::set_word;
 pub fn mov_to_cr8(page: &mut [u8], record: Record, value: u8, register: u8) -> Outcome
     ensures { λ r. ⌜ Leaves (movToCr8 (now (page .entry)) «record» value register) r (now (page .exit)) ⌝ }
 {
-    let controls = record.controls;
-    let access = cr8_access(controls, CR8_LOAD_EXITING);
+    let access = to_cr8(record.controls);
     match access {
         Access::Passthrough => passthrough(record),
-        Access::Exit => exit(record, 28, cr8_qualification(TO_CR8, register)),
+        Access::Exit => exit(record, 28, to_cr8_qualification(register)),
         Access::Redirected => {
             set_word(page, VTPR, 16 * (value as u32));
             tpr_virtualization(page, record)
@@ -37,11 +34,10 @@ pub fn mov_to_cr8(page: &mut [u8], record: Record, value: u8, register: u8) -> O
 pub fn mov_from_cr8(page: &[u8], record: Record, register: u8) -> Outcome
     ensures { λ r. ⌜ Leaves (movFromCr8 (now (page .entry)) «record» register) r (now (page .entry)) ⌝ }
 {
-    let controls = record.controls;
-    let access = cr8_access(controls, CR8_STORE_EXITING);
+    let access = from_cr8(record.controls);
     match access {
         Access::Passthrough => passthrough(record),
-        Access::Exit => exit(record, 28, cr8_qualification(FROM_CR8, register)),
+        Access::Exit => exit(record, 28, from_cr8_qualification(register)),
         Access::Redirected => redirected(record, class_of(byte_at(page, VTPR)) as u64),
     }
 }

@@ -10,7 +10,6 @@ use accesses::memory::write_following;
 use accesses::memory::write_qualification;
 use events::answer::Outcome;
 use page::bytes::byte_at;
-use page::bytes::read_at;
 use page::bytes::word_at;
 use procedures::outcome::exit;
 use procedures::outcome::passthrough;
@@ -26,9 +25,10 @@ use processor::offsets::VEOI;
 use processor::offsets::VICR_HI;
 use processor::offsets::VICR_LO;
 use processor::offsets::VTPR;
+use sizes::bytes::read_at;
+use sizes::bytes::store_at;
 use stores::bytes::set_byte;
 use stores::bytes::set_word;
-use stores::bytes::store_at;
 
 pub fn memory_read(
     page: &[u8],

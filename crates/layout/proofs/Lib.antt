@@ -1,2 +1,2 @@
+pub mod EventRows
 pub mod Fresh
-pub mod RoundTrip

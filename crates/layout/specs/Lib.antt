@@ -1,1 +1,3 @@
+pub mod EventBytes
+pub mod EventRows
 pub mod RecordBytes

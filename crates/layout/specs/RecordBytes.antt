@@ -3,12 +3,9 @@ use Prim.Native.Nat.{ℕ, _%_}
 use mathlib.Core.Bool.{Bool, _&&_}
 use mathlib.Core.List.{List}
 use lib.Dec.{eqb, ltb}
-use lib.ListN.{replicate}
-use Rattle.processor.specs.Logic.{if_then_else_}
 use Rattle.processor.specs.declared.controls.Controls.{Controls}
 use Rattle.processor.specs.declared.controls.Record.{Record}
 use Rattle.page.specs.Page.{byteAt, wordWithin, longWithin}
-use Rattle.stores.specs.Stores.{setByte, setHalf, setWord, setLong}
 
 -- threshold u32 at 4, flags u32 at 8, notification vector u16 at 12, the low half of the word there, EOI-exit words u64 at 16, 24, 32,
 -- 40; an entry's event has them at the same places
@@ -28,18 +25,6 @@ controlsOf b =
 abbrev pub reservedZero : List ℕ → Bool
 reservedZero b = ltb (wordWithin b 12) 0x1_0000
 
--- the bytes with the controls stored at the same places
-unfoldable pub controlsBytes : List ℕ → Controls → List ℕ
-controlsBytes b c =
-    setLong (setLong (setLong (setLong (setHalf (setWord (setWord b
-    4 (c .threshold))
-    8 (c .flags))
-    12 (c .notification))
-    16 (c .«eoi_exit_0»))
-    24 (c .«eoi_exit_1»))
-    32 (c .«eoi_exit_2»))
-    40 (c .«eoi_exit_3»)
-
 -- mode (at 0) and recognised (at 3) are 0 or 1, and the reserved bytes are 0
 abbrev pub recordReadable : List ℕ → Bool
 recordReadable b = ltb (byteAt b 0) 2 && ltb (byteAt b 3) 2 && reservedZero b
@@ -54,33 +39,3 @@ recordOf b =
       recognised = eqb (byteAt b 3) 1;
       controls = controlsOf b;
     }
-
--- mode and recognised are stored as 0 or 1
-unfoldable pub truthByte : Bool → ℕ
-truthByte on = if on then 1 else 0
-
--- the bytes with all of the record but its controls stored
-abbrev pub statusBytes : List ℕ → Record → List ℕ
-statusBytes b r =
-    setByte (setByte (setByte (setByte b
-    0 (truthByte (r .guest)))
-    1 (r .rvi))
-    2 (r .svi))
-    3 (truthByte (r .recognised))
-
--- the bytes with the record stored; the reserved ones stay
-unfoldable pub recordBytes : List ℕ → Record → List ℕ
-recordBytes b r = controlsBytes (statusBytes b r) (r .controls)
-
--- the record's own 48 bytes
-abbrev pub bytesOf : Record → List ℕ
-bytesOf r = recordBytes (replicate 48 0) r
-
--- Refused, redirected, passthrough and fault, answers 0 to 3, change nothing, so the record's bytes stay; an exit, a delivery and quiet
--- store the record.
-unfoldable pub kept : List ℕ → ℕ → Record → List ℕ
-kept b answer r = if ltb answer 4 then b else recordBytes b r
-
--- the same with the controls left as the bytes hold them
-unfoldable pub keptStatus : List ℕ → ℕ → Record → List ℕ
-keptStatus b answer r = if ltb answer 4 then b else statusBytes b r

@@ -1,26 +1,23 @@
 // The controls, at the same places in the record's bytes and in an entry's.
 ghost use mathlib.Core.Path.{_≡_};
-ghost use Rattle.layout.specs.RecordBytes.{controlsOf, reservedZero, controlsBytes};
+ghost use Rattle.layout.specs.RecordBytes.{controlsOf, reservedZero};
 use page::bytes::long_within;
 use page::bytes::word_within;
 use processor::controls::Controls;
-use stores::bytes::set_half;
-use stores::bytes::set_long;
-use stores::bytes::set_word;
 
-const THRESHOLD: u16 = 4;
+pub const THRESHOLD: u16 = 4;
 
-const FLAGS: u16 = 8;
+pub const FLAGS: u16 = 8;
 
-const NOTIFICATION: u16 = 12;
+pub const NOTIFICATION: u16 = 12;
 
-const EOI_EXIT_0: u16 = 16;
+pub const EOI_EXIT_0: u16 = 16;
 
-const EOI_EXIT_1: u16 = 24;
+pub const EOI_EXIT_1: u16 = 24;
 
-const EOI_EXIT_2: u16 = 32;
+pub const EOI_EXIT_2: u16 = 32;
 
-const EOI_EXIT_3: u16 = 40;
+pub const EOI_EXIT_3: u16 = 40;
 
 pub fn controls_of(bytes: &[u8]) -> Controls
     ensures { λ r. ⌜ r ≡ controlsOf (now (bytes .entry)) ⌝ }
@@ -41,16 +38,4 @@ pub fn reserved_zero(bytes: &[u8]) -> bool
     ensures { λ r. ⌜ r ≡ reservedZero (now (bytes .entry)) ⌝ }
 {
     word_within(bytes, NOTIFICATION) < 0x1_0000
-}
-
-pub fn controls_bytes(bytes: &mut [u8], controls: Controls)
-    ensures { λ _. ⌜ now (bytes .exit) ≡ controlsBytes (now (bytes .entry)) controls ⌝ }
-{
-    set_word(bytes, THRESHOLD, controls.threshold);
-    set_word(bytes, FLAGS, controls.flags);
-    set_half(bytes, NOTIFICATION, controls.notification);
-    set_long(bytes, EOI_EXIT_0, controls.eoi_exit_0);
-    set_long(bytes, EOI_EXIT_1, controls.eoi_exit_1);
-    set_long(bytes, EOI_EXIT_2, controls.eoi_exit_2);
-    set_long(bytes, EOI_EXIT_3, controls.eoi_exit_3);
 }

@@ -3,12 +3,14 @@ use lib.Dec.{T}
 use Rattle.processor.specs.Controls.{eoiExitWord}
 use Rattle.events.specs.Events.{valueInBounds, eventInBounds, rootOnly, allowed}
 use Rattle.rules.specs.EntryChecks.{failingCheck}
-use Rattle.accesses.specs.Accesses.{openOffset, memoryAccess, readQualification, writeFollowing}
+use Rattle.table.specs.Table.{openOffset}
+use Rattle.accesses.specs.Accesses.{memoryAccess, readQualification, writeFollowing}
 use Rattle.instructions.specs.Instructions.{cr8Access, wrmsrFollowing, wrmsr}
 use Rattle.processor.specs.Logic.{larger}
 use Rattle.priorities.specs.Priorities.{ppr}
-use Rattle.page.specs.Page.{halfAt, wordAt, longAt, readAt}
-use Rattle.stores.specs.Stores.{setHalf, setWord, setLong, storeAt}
+use Rattle.page.specs.Page.{halfAt, wordAt, longAt}
+use Rattle.stores.specs.Stores.{setHalf, setWord, setLong}
+use Rattle.sizes.specs.Sizes.{readAt, storeAt}
 use Rattle.registers.specs.Vectors.{isSet, putVector, highestOf, highest}
 use Rattle.descriptor.specs.Descriptor.{posted, raisedBy, joinedBelow, clearedBelow, cleared}
 use Rattle.meaning.specs.Procedures.{pprVirtualization, evaluation, evaluatedQuiet, tprVirtualization, retiredPage, retiredRecord, eoiEnd, eoiVirtualization, requestedPage, requestedRecord, selfIpiVirtualization}

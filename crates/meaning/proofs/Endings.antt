@@ -25,12 +25,13 @@ use Rattle.events.specs.declared.event.Event.{Event}
 use Rattle.events.specs.declared.event.Event.the-variants.{Entry, Request, MemoryRead, MemoryWrite, ToCr8, FromCr8, Rdmsr, Wrmsr, Boundary}
 use Rattle.rules.specs.EntryChecks.{exitsAtEntry}
 use Rattle.priorities.specs.Priorities.{belowThreshold, openBoundary}
-use Rattle.accesses.specs.Accesses.{openOffset, pastRegister, accessExits, memoryAccess, readQualification, writeQualification, selfIpi, inRegister, writeFollowing}
+use Rattle.table.specs.Table.{inRegister, openOffset}
+use Rattle.accesses.specs.Accesses.{pastRegister, accessExits, memoryAccess, readQualification, writeQualification, selfIpi, writeFollowing}
 use Rattle.accesses.specs.declared.memory.Following.the-variants.{Tpr, Eoi, SelfIpi, IcrHigh, ApicWrite}
 use Rattle.instructions.specs.Instructions.{toCr8, fromCr8, toCr8Qualification, fromCr8Qualification, rdmsrRedirected, msrOffset, wrmsrHandled, wrmsrFaults, wrmsrFollowing, wrmsr}
 use Rattle.instructions.specs.declared.msr.MsrWrite.the-variants.{Passthrough as MsrPassthrough, Fault, Tpr as MsrTpr, Eoi as MsrEoi, SelfIpi as MsrSelfIpi, ApicWrite as MsrApicWrite}
-use Rattle.page.specs.Page.{byteAt, wordAt, longAt, readAt}
-use Rattle.stores.specs.Stores.{storeAt}
+use Rattle.page.specs.Page.{byteAt, wordAt, longAt}
+use Rattle.sizes.specs.Sizes.{readAt, storeAt}
 use Rattle.descriptor.specs.Descriptor.{postedVectors}
 use Rattle.meaning.specs.Input.{Input, given, external, leaves}
 use Rattle.meaning.specs.After.{After, redirected, passthrough, fault, exit, quiet}

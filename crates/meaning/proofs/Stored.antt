@@ -15,9 +15,11 @@ use Rattle.processor.specs.Offsets.{vtpr, vppr, veoi, visr, vicrLo}
 use Rattle.processor.specs.declared.controls.Controls.{Controls}
 use Rattle.processor.proofs.Tests.{below, sure, and-left, and-right, left, right}
 use Rattle.events.specs.Events.{sizeInBounds}
-use Rattle.accesses.specs.Accesses.{writeRegisters, inRegister, inRegisters, openTpr, openDelivery, openWrite, openOffset, pastRegister}
+use Rattle.table.specs.Table.{writeRegisters, inRegister, inRegisters, openTpr, openDelivery, openWrite, openOffset}
+use Rattle.accesses.specs.Accesses.{pastRegister}
 use Rattle.page.specs.Page.{byteAt}
-use Rattle.stores.specs.Stores.{setByte, setHalf, setWord, setLong, storeAt}
+use Rattle.stores.specs.Stores.{setByte, setHalf, setWord, setLong}
+use Rattle.sizes.specs.Sizes.{storeAt}
 use Rattle.meaning.specs.Memory.{clearThree}
 
 -- the byte lies apart from both registers, and from VPPR's low byte

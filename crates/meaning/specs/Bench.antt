@@ -39,9 +39,10 @@ abbrev pub done : Held → Deed → End
 done h (inputs is) = record { answers = answers h is; held = after h is }
 done h pprAlone = record { answers = []; held = record { page = pprVirtualization (h .page) (h .state); state = h .state } }
 
--- what is asked of the page at the end: that some words have their values, or that every byte is as at the start
+-- what is asked of the page at the end: that some words have their values, that it has these bytes, or those of the start
 pub data PageEnd : Type 0 where
   words : List Word → PageEnd
+  bytes : List ℕ → PageEnd
   asBefore : PageEnd
 
 -- a row: the start; the deed; the answers' numbers; mode, RVI, SVI, recognition and controls at the end; the page at the end
@@ -74,6 +75,7 @@ sameBytes (a ∷ p) (b ∷ q) = eqb a b && sameBytes p q
 -- a page at the end, of a page at the start
 abbrev pub pageEnds : List ℕ → List ℕ → PageEnd → Bool
 pageEnds before p (words ws) = hasWords p ws
+pageEnds before p (bytes q) = sameBytes p q
 pageEnds before p asBefore = sameBytes p before
 
 abbrev pub sameControls : Controls → Controls → Bool
@@ -151,19 +153,12 @@ abbrev pub each : List Event → List Input
 each [] = []
 each (e ∷ es) = given e ∷ each es
 
--- K1's events under some controls with more after them, and their answers
-abbrev afterK1 : Controls → List Event → List Input
-afterK1 c es = each (Request 0x60 ∷ Entry c ∷ boundaryOpen ∷ es)
-
-abbrev answersK1 : List Numbers
-answersK1 = quiet ∷ quiet ∷ delivered 0x60 ∷ []
-
 abbrev write300 : ℕ → Event
 write300 value = MemoryWrite 0x300 4 false false value
 
 -- a row that starts fresh
-abbrev fromFresh : List Input → List Numbers → Record → List Word → Row
-fromFresh is answers state ws = record { begin = start; deed = inputs is; answers = answers; state = state; page = words ws }
+abbrev fromFresh : List Input → List Numbers → Record → PageEnd → Row
+fromFresh is answers state page = record { begin = start; deed = inputs is; answers = answers; state = state; page = page }
 
 -- a row of one event
 abbrev oneEvent : List ℕ → Record → Event → Numbers → Record → PageEnd → Row
@@ -174,26 +169,40 @@ oneEvent p r e a state page =
 abbrev inGuest : Controls → List ℕ → Event → Numbers → Bool → List Word → Row
 inGuest c p e a guest ws = oneEvent p (guestWith c 0) e a (stateOf guest 0 0 false c) (words ws)
 
+-- K1 under some controls
+abbrev rowK1 : Controls → PageEnd → Row
+rowK1 c page = fromFresh (each (Request 0x60 ∷ Entry c ∷ boundaryOpen ∷ [])) (quiet ∷ quiet ∷ delivered 0x60 ∷ []) (stateOf true 0 0x60 false c) page
+
 abbrev pub k1 : Row
-k1 =
-    fromFresh (afterK1 controlsV []) answersK1 (stateOf true 0 0x60 false controlsV)
-    (word 0x130 1 ∷ word 0x230 0 ∷ word 0x0a0 0x60 ∷ [])
+k1 = rowK1 controlsV (words (word 0x130 1 ∷ word 0x230 0 ∷ word 0x0a0 0x60 ∷ []))
+
+-- a page that is zero but for 60H in service and VPPR 60H
+abbrev servicePage : List ℕ
+servicePage = setByte (setVector zeroPage visr 0x60) vppr 0x60
+
+-- K1 under M leaves this very page, so a row can start there
+abbrev pub k1UnderM : Row
+k1UnderM = rowK1 controlsM (bytes servicePage)
+
+-- a row that starts in the state after K1 under M
+abbrev afterK1 : List Input → List Numbers → Record → List Word → Row
+afterK1 is answers state ws =
+    record { begin = record { page = servicePage; state = k1UnderM .state }; deed = inputs is; answers = answers; state = state; page = words ws }
 
 abbrev pub k2 : Row
 k2 =
-    fromFresh (afterK1 controlsM (write300 0x0004_0071 ∷ boundaryOpen ∷ [])) (answersK1 ++ (quiet ∷ delivered 0x71 ∷ []))
-    (stateOf true 0 0x71 false controlsM) (word 0x130 0x0002_0001 ∷ word 0x0a0 0x70 ∷ [])
+    afterK1 (each (write300 0x0004_0071 ∷ boundaryOpen ∷ [])) (quiet ∷ delivered 0x71 ∷ []) (stateOf true 0 0x71 false controlsM)
+    (word 0x130 0x0002_0001 ∷ word 0x0a0 0x70 ∷ [])
 
 abbrev pub k3 : Row
 k3 =
-    fromFresh (afterK1 controlsM (write300 0x0004_0071 ∷ boundaryOpen ∷ MemoryWrite 0x0b0 4 false false 0 ∷ []))
-    (answersK1 ++ (quiet ∷ delivered 0x71 ∷ quiet ∷ [])) (stateOf true 0 0x60 false controlsM)
-    (word 0x130 1 ∷ word 0x0a0 0x60 ∷ [])
+    afterK1 (each (write300 0x0004_0071 ∷ boundaryOpen ∷ MemoryWrite 0x0b0 4 false false 0 ∷ [])) (quiet ∷ delivered 0x71 ∷ quiet ∷ [])
+    (stateOf true 0 0x60 false controlsM) (word 0x130 1 ∷ word 0x0a0 0x60 ∷ [])
 
 -- one write to VICR_LO after K1 under M
 abbrev afterK1Write : ℕ → Numbers → Bool → ℕ → Bool → List Word → Row
 afterK1Write value a guest rvi recognised ws =
-    fromFresh (afterK1 controlsM (write300 value ∷ [])) (answersK1 ++ (a ∷ [])) (stateOf guest rvi 0x60 recognised controlsM) ws
+    afterK1 (each (write300 value ∷ [])) (a ∷ []) (stateOf guest rvi 0x60 recognised controlsM) ws
 
 abbrev pub k4 : Row
 k4 = afterK1Write 0x0004_0065 quiet true 0x65 false []
@@ -242,12 +251,12 @@ k11 =
     inGuest controlsR zeroPage (MemoryWrite 0x0a0 4 false false 1) (exit 44 0x10a0) false (word 0x0a0 0 ∷ []) ∷ []
 
 abbrev pub k12 : Row
-k12 = fromFresh (each (Request 0 ∷ Entry controlsV ∷ [])) (quiet ∷ quiet ∷ []) (guestWith controlsV 0) (word 0x200 1 ∷ [])
+k12 = fromFresh (each (Request 0 ∷ Entry controlsV ∷ [])) (quiet ∷ quiet ∷ []) (guestWith controlsV 0) (words (word 0x200 1 ∷ []))
 
 -- the guest leaves with 71H recognised, and in root mode it cannot leave again
 abbrev pub leaving : Row
 leaving =
-    fromFresh (afterK1 controlsM (write300 0x0004_0071 ∷ []) ++ (leaves ∷ leaves ∷ [])) (answersK1 ++ (quiet ∷ quiet ∷ refused 3 0 ∷ []))
+    afterK1 (given (write300 0x0004_0071) ∷ leaves ∷ leaves ∷ []) (quiet ∷ quiet ∷ refused 3 0 ∷ [])
     (stateOf false 0x71 0x60 false controlsM) (word 0x130 1 ∷ word 0x230 0x0002_0000 ∷ word 0x0a0 0x60 ∷ [])
 
 -- E2: an entry at VTPR 4F and VPPR 70, from root mode with RVI 52, SVI 31, an interrupt recognised and controls of its own
@@ -318,12 +327,12 @@ controlsP = notified 0xf2 0x633 0
 abbrev pub postedRun : Row
 postedRun =
     fromFresh (given (Entry controlsP) ∷ external twoPosted 0xf2 ∷ given boundaryOpen ∷ []) (quiet ∷ quiet ∷ delivered 0x71 ∷ [])
-    (stateOf true 0x31 0x71 false controlsP) (word 0x130 0x0002_0000 ∷ word 0x210 0x0002_0000 ∷ word 0x230 0 ∷ word 0x0a0 0x70 ∷ [])
+    (stateOf true 0x31 0x71 false controlsP) (words (word 0x130 0x0002_0000 ∷ word 0x210 0x0002_0000 ∷ word 0x230 0 ∷ word 0x0a0 0x70 ∷ []))
 
 -- K1 to K12, the guest that leaves, both sides of E2, and E1
 abbrev pub benchRows : List Row
 benchRows =
-    (k1 ∷ k2 ∷ k3 ∷ k4 ∷ k5 ∷ []) ++ k6 ++ k7 ++ k8 ++ k9 ++ k10 ++ k11 ++ (k12 ∷ leaving ∷ []) ++ thresholds ++ postingChecks ++
+    (k1 ∷ k1UnderM ∷ k2 ∷ k3 ∷ k4 ∷ k5 ∷ []) ++ k6 ++ k7 ++ k8 ++ k9 ++ k10 ++ k11 ++ (k12 ∷ leaving ∷ []) ++ thresholds ++ postingChecks ++
     (postedRun ∷ [])
 
 -- a row of one external interrupt: page, record, descriptor and vector; then answer, record, page and every byte of the descriptor
@@ -347,15 +356,12 @@ interruptsHold (x ∷ xs) =
     interruptsHold xs
 
 -- a guest at VPPR 60H, with 60H in service
-abbrev guestPage : List ℕ
-guestPage = setByte (setVector zeroPage visr 0x60) vppr 0x60
-
 abbrev interrupted : Bool → ℕ → Bool → Controls → Record
 interrupted guest rvi recognised c = stateOf guest rvi 0x60 recognised c
 
 abbrev interrupt : Record → List ℕ → ℕ → Numbers → Record → PageEnd → List ℕ → Interrupt
 interrupt r d vector a state page left =
-    record { begin = record { page = guestPage; state = r }; descriptor = d; vector = vector; answer = a; state = state; page = page; left = left }
+    record { begin = record { page = servicePage; state = r }; descriptor = d; vector = vector; answer = a; state = state; page = page; left = left }
 
 -- nothing but the answer comes of it
 abbrev untouched : Record → List ℕ → ℕ → Numbers → Interrupt

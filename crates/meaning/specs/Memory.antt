@@ -9,8 +9,9 @@ use Rattle.processor.specs.declared.access.Access.the-variants.{Passthrough, Ex
 use Rattle.accesses.specs.declared.memory.Following.{Following}
 use Rattle.accesses.specs.declared.memory.Following.the-variants.{Tpr, Eoi, SelfIpi, IcrHigh, ApicWrite}
 use Rattle.processor.specs.Offsets.{vtpr, veoi, vicrLo, vicrHi}
-use Rattle.page.specs.Page.{byteAt, wordAt, readAt}
-use Rattle.stores.specs.Stores.{setByte, setWord, storeAt}
+use Rattle.page.specs.Page.{byteAt, wordAt}
+use Rattle.stores.specs.Stores.{setByte, setWord}
+use Rattle.sizes.specs.Sizes.{readAt, storeAt}
 use Rattle.meaning.specs.After.{After, redirected, passthrough, exit, quiet}
 use Rattle.meaning.specs.Procedures.{tprVirtualization, eoiVirtualization, selfIpiVirtualization}
 

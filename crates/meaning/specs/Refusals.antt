@@ -9,7 +9,7 @@ use Rattle.processor.specs.Logic.{if_then_else_}
 use Rattle.processor.specs.Controls.{flagsInBounds}
 use Rattle.processor.specs.Offsets.{vtpr}
 use Rattle.processor.specs.declared.controls.Record.{Record}
-use Rattle.events.specs.Events.{inBounds, allowed}
+use Rattle.events.specs.Events.{vectorInBounds, inBounds, allowed}
 use Rattle.events.specs.declared.answer.Refusal.{Refusal}
 use Rattle.events.specs.declared.answer.Refusal.the-variants.{None, By}
 use Rattle.events.specs.declared.event.Event.{Event}
@@ -34,7 +34,7 @@ lentFits leaves = true
 -- 2: a field outside the bounds, of the record or of the input
 abbrev pub fieldsFit : Record → Input → Bool
 fieldsFit r (given e) = inBounds r e
-fieldsFit r (external d vector) = flagsInBounds (r .controls) && ltb vector 256
+fieldsFit r (external d vector) = flagsInBounds (r .controls) && vectorInBounds vector
 fieldsFit r leaves = flagsInBounds (r .controls)
 
 -- 3: not allowed in this mode. A guest alone can leave, or be interrupted.

@@ -12,6 +12,7 @@ use events::bounds::REGISTERS;
 use events::bounds::VECTORS;
 use events::bounds::memory_read_in_bounds;
 use events::bounds::memory_write_in_bounds;
+use events::bounds::vector_in_bounds;
 use handlers::boundary;
 use handlers::cr8;
 use handlers::entry;
@@ -43,7 +44,7 @@ pub fn entry(page: &mut [u8], record: Record, controls: Controls) -> Outcome
 pub fn request(page: &mut [u8], record: Record, vector: u16) -> Outcome
     ensures { λ r. ⌜ Leaves (stepOf (now (page .entry)) «record» (given (Request vector))) r (now (page .exit)) ⌝ }
 {
-    let refusal = root_refusal(page, record, vector < VECTORS, 0);
+    let refusal = root_refusal(page, record, vector_in_bounds(vector as u32), 0);
     match refusal {
         Refusal::None => entry::request(page, record, (vector % VECTORS) as u8),
         Refusal::By { number, check } => refused(record, number, check),

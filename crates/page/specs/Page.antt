@@ -3,7 +3,7 @@ use Prim.Native.Nat.{ℕ, _+_, _*_, _<_}
 use mathlib.Core.Path.{_≡_}
 use mathlib.Core.List.{List}
 use lib.ListN.{length, getD}
-use lib.Dec.{eqb, leb}
+use lib.Dec.{leb}
 use Rattle.processor.specs.Logic.{if_then_else_}
 
 -- a byte of the page, 0 past its end
@@ -29,14 +29,6 @@ wordWithin p at = if leb (at + 4) (length p) then wordAt p at else 0
 
 unfoldable pub longWithin : List ℕ → ℕ → ℕ
 longWithin p at = if leb (at + 8) (length p) then longAt p at else 0
-
--- the bytes of a read, by its size
-unfoldable pub readAt : List ℕ → ℕ → ℕ → ℕ
-readAt p at size =
-    if eqb size 1 then byteAt p at
-    else if eqb size 2 then halfAt p at
-    else if eqb size 4 then wordAt p at
-    else longAt p at
 
 -- a page: 4,096 bytes
 pub record IsPage (p : List ℕ) : Type 0 where

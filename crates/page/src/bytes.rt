@@ -2,7 +2,7 @@
 ghost use mathlib.Core.Path.{_≡_};
 ghost use Prim.Native.Nat.{_+_, _≤_};
 ghost use lib.ListN.{length};
-ghost use Rattle.page.specs.Page.{wordOf, byteAt, halfAt, wordAt, longAt, wordWithin, longWithin, readAt};
+ghost use Rattle.page.specs.Page.{wordOf, byteAt, halfAt, wordAt, longAt, wordWithin, longWithin};
 
 // The byte at a place of the slice, 0 past its end.
 fn byte_from(page: &[u8], at: usize) -> u8
@@ -20,7 +20,7 @@ pub fn byte_at(page: &[u8], offset: u16) -> u8
     byte_from(page, offset as usize)
 }
 
-fn half_at(page: &[u8], offset: u16) -> u16
+pub fn half_at(page: &[u8], offset: u16) -> u16
     ensures { λ r. ⌜ r ≡ halfAt (now (page .entry)) offset ⌝ }
 {
     let at = offset as usize;
@@ -108,20 +108,4 @@ pub fn long_within(page: &[u8], offset: u16) -> u64
         return whole_long(page, at);
     }
     0
-}
-
-// The bytes of a read, by its size.
-pub fn read_at(page: &[u8], offset: u16, size: u8) -> u64
-    ensures { λ r. ⌜ r ≡ readAt (now (page .entry)) offset size ⌝ }
-{
-    if size == 1 {
-        return byte_at(page, offset) as u64;
-    }
-    if size == 2 {
-        return half_at(page, offset) as u64;
-    }
-    if size == 4 {
-        return word_at(page, offset) as u64;
-    }
-    long_at(page, offset)
 }

@@ -10,7 +10,7 @@ ghost use Rattle.meaning.specs.Input.{given, external, leaves};
 ghost use Rattle.meaning.specs.Refusals.{eventCheck, firstRefusal, refusalOf};
 use descriptor::posted::descriptor_fits;
 use events::answer::Refusal;
-use events::bounds::VECTORS;
+use events::bounds::vector_in_bounds;
 use events::event::Event;
 use events::event::in_bounds;
 use events::event::is_allowed;
@@ -121,7 +121,7 @@ pub fn external_refusal_of(page: &[u8], record: Record, descriptor: &[u8], vecto
     first_refusal(
         page,
         descriptor_fits(descriptor),
-        controls.flags_in_bounds() & (vector < VECTORS as u32),
+        controls.flags_in_bounds() & vector_in_bounds(vector),
         record.guest,
         0,
     )

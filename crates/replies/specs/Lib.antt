@@ -1,2 +1,1 @@
-pub mod EventBytes
 pub mod Replies

@@ -14,8 +14,9 @@ use Rattle.meaning.specs.Input.{given, external, leaves}
 use Rattle.meaning.specs.After.{After}
 use Rattle.meaning.specs.Step.{step, descriptorAfter}
 use Rattle.descriptor.specs.Descriptor.{descriptorFits}
-use Rattle.layout.specs.RecordBytes.{recordReadable, recordOf, kept}
-use Rattle.replies.specs.EventBytes.{eventReadable, eventOf}
+use Rattle.layout.specs.EventBytes.{eventReadable, eventOf}
+use Rattle.layout.specs.RecordBytes.{recordReadable, recordOf}
+use Rattle.keeping.specs.KeptBytes.{kept}
 
 pub record Reply : Type 0 where
   pub answer : ℕ

@@ -6,8 +6,8 @@ use crate::told::refused;
 use crate::told::told_status;
 use descriptor::posted::descriptor_fits;
 use events::answer::Numbers;
-use layout::record_of;
-use layout::record_readable;
+use layout::records::record_of;
+use layout::records::record_readable;
 use model::external_interrupt;
 
 // On a record that can be read.

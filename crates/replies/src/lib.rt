@@ -7,12 +7,11 @@ ghost use Rattle.replies.specs.Replies.{Replies, ggStep, leaveReply, ggL
 use events::answer::Numbers;
 pub use external::external_bytes;
 use kinds::kind_reply;
-use layout::record_of;
-use layout::record_readable;
+use layout::records::record_of;
+use layout::records::record_readable;
 use told::refused;
 use told::told_status;
 
-mod event_bytes;
 mod external;
 mod kinds;
 mod told;

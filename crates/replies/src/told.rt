@@ -8,8 +8,8 @@ use events::answer::Numbers;
 use events::answer::Outcome;
 use events::answer::numbered;
 use events::answer::numbers_of;
-use layout::keep;
-use layout::keep_status;
+use keeping::keep;
+use keeping::keep_status;
 
 pub fn refused(number: u64) -> Numbers
     ensures { λ r. ⌜ r ≡ numbers 0 number 0 ⌝ }

@@ -4,11 +4,13 @@ use mathlib.Core.Bool.{true, true≢false}
 use Rattle.processor.specs.Controls.{eoiExitWord}
 use Rattle.events.specs.Events.{valueInBounds, eventInBounds, rootOnly, allowed}
 use Rattle.rules.specs.EntryChecks.{failingCheck}
-use Rattle.accesses.specs.Accesses.{openOffset, memoryAccess, writeFollowing}
+use Rattle.table.specs.Table.{openOffset}
+use Rattle.accesses.specs.Accesses.{memoryAccess, writeFollowing}
 use Rattle.processor.specs.Logic.{larger}
 use Rattle.priorities.specs.Priorities.{ppr}
 use Rattle.page.specs.Page.{wordAt}
-use Rattle.stores.specs.Stores.{setWord, storeAt}
+use Rattle.stores.specs.Stores.{setWord}
+use Rattle.sizes.specs.Sizes.{storeAt}
 use Rattle.registers.specs.Vectors.{isSet, putVector, highestOf, highest}
 use Rattle.meaning.specs.Procedures.{pprVirtualization, evaluation, evaluatedQuiet, requestedPage, requestedRecord, selfIpiVirtualization}
 use Rattle.meaning.specs.Entry.{entered, entry, request}

@@ -2,8 +2,6 @@
 use Prim.Native.Nat.{ℕ, _+_, _/_, _%_}
 use mathlib.Core.List.{List}
 use lib.ListN.{set}
-use lib.Dec.{eqb}
-use Rattle.processor.specs.Logic.{if_then_else_}
 
 -- the page with bytes stored; nothing changes past its end
 abbrev pub setByte : List ℕ → ℕ → ℕ → List ℕ
@@ -19,11 +17,3 @@ setWord p at value =
 
 unfoldable pub setLong : List ℕ → ℕ → ℕ → List ℕ
 setLong p at value = setWord (setWord p at (value % 0x1_0000_0000)) (at + 4) (value / 0x1_0000_0000)
-
--- the bytes of a write, by its size
-unfoldable pub storeAt : List ℕ → ℕ → ℕ → ℕ → List ℕ
-storeAt p at size value =
-    if eqb size 1 then setByte p at (value % 0x100)
-    else if eqb size 2 then setHalf p at (value % 0x1_0000)
-    else if eqb size 4 then setWord p at (value % 0x1_0000_0000)
-    else setLong p at value

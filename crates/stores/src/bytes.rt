@@ -2,7 +2,7 @@
 ghost use mathlib.Core.Path.{_≡_};
 ghost use Prim.Native.Nat.{_+_, _≤_};
 ghost use lib.ListN.{length};
-ghost use Rattle.stores.specs.Stores.{setByte, setHalf, setWord, setLong, storeAt};
+ghost use Rattle.stores.specs.Stores.{setByte, setHalf, setWord, setLong};
 
 // A byte stored at a place of the slice, nothing past its end.
 fn set_byte_from(page: &mut [u8], at: usize, value: u8)
@@ -80,23 +80,4 @@ pub fn set_long(page: &mut [u8], offset: u16, value: u64)
     let from = offset as u32;
     set_word_from(page, from, (value % 0x1_0000_0000) as u32);
     set_word_from(page, from + 4, (value / 0x1_0000_0000) as u32);
-}
-
-// The bytes of a write, by its size.
-pub fn store_at(page: &mut [u8], offset: u16, size: u8, value: u64)
-    ensures { λ _. ⌜ now (page .exit) ≡ storeAt (now (page .entry)) offset size value ⌝ }
-{
-    if size == 1 {
-        set_byte(page, offset, (value % 0x100) as u8);
-        return;
-    }
-    if size == 2 {
-        set_half(page, offset, (value % 0x1_0000) as u16);
-        return;
-    }
-    if size == 4 {
-        set_word(page, offset, (value % 0x1_0000_0000) as u32);
-        return;
-    }
-    set_long(page, offset, value);
 }

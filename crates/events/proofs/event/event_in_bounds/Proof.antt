@@ -10,7 +10,7 @@ returns c = simp (c .before .before .event .given .1, ← (c .flags-in-bounds .e
 
 returns-2 : tie.Need-returns-2
 unfolding eventInBounds
-returns-2 c = simp (c .before .event2 .given .1)
+returns-2 c = simp (c .before .before .event2 .given .1, ← (c .vector-in-bounds .ensures))
 
 returns-3 : tie.Need-returns-3
 unfolding eventInBounds
@@ -47,6 +47,8 @@ event-in-bounds-spec =
     (λ c. search needs)
     (λ c κs. tt)
     (λ c. search needs)
+    (λ c. search needs)
+    (λ c κs. tt)
     (λ c. search needs)
     (λ c κs. tt)
     (λ c. search needs)

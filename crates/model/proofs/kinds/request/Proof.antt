@@ -18,8 +18,8 @@ returns c =
     let at-call = c .before .before in
     let told = at-call .before .before in
     let at-refusal = told .before .before in
-    let args = at-refusal .before .before .before .args in
-    let none : refusalOf (args .page .now) (args .«record») (given (Request (args .vector))) ≡ None = sym (at-refusal .root-refusal .ensures) ∙ told .enum-told .given .1 in
+    let args = at-refusal .before .before .before .before .args in
+    let none : refusalOf (args .page .now) (args .«record») (given (Request (args .vector))) ≡ None = sym (simp (at-refusal .before .vector-in-bounds .ensures) at (at-refusal .root-refusal .ensures)) ∙ told .enum-told .given .1 in
     carried _ _ _ _ _ none (rw (byte-vector (args .page .now) (args .«record») (args .vector) none) at (at-call .request .ensures))
 
 returns-2 : tie.Need-returns-2
@@ -27,12 +27,13 @@ unfolding refusalOf eventInBounds rootOnly allowed
 returns-2 c =
     let told = c .before .before in
     let at-refusal = told .before .before in
-    refused-by _ _ _ _ _ _ (sym (at-refusal .root-refusal .ensures) ∙ told .refusal .given .1) (c .refused .ensures _)
+    refused-by _ _ _ _ _ _ (sym (simp (at-refusal .before .vector-in-bounds .ensures) at (at-refusal .root-refusal .ensures)) ∙ told .refusal .given .1) (c .refused .ensures _)
 
 pub request-spec : {M : Type 1} → statement M
 request-spec =
     tie.close
     (tie.spec
+    (λ c κs. tt)
     (λ c κs. tt)
     (λ c. search needs)
     (λ c. search needs)

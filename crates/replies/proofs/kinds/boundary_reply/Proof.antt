@@ -3,7 +3,7 @@ use native.Mathlib.Nat.{div-one}
 use borrow.Author.Tests.{lt-ltb, le-ltb}
 use mathlib.Core.Path.{refl}
 use borrow.Author.Needs.{needs}
-use Rattle.replies.specs.EventBytes.{boundaryOf}
+use Rattle.layout.specs.EventBytes.{boundaryOf}
 use Rattle.replies.specs.Replies.{kindReply}
 use Rattle.replies.proofs.Reply.{refusal, reply, same-controls}
 use Rattle.replies.proofs.kinds.boundary_reply.Statement.{statement}

@@ -1,7 +1,7 @@
 -- `replies::kinds::kind_reply` meets its contract: the event's kind, and its function. Assumes nothing.
 use borrow.Author.Needs.{needs}
 use borrow.Author.Tests.{ne-eqb}
-use Rattle.replies.specs.EventBytes.{eventReadable, eventOf}
+use Rattle.layout.specs.EventBytes.{eventReadable, eventOf}
 use Rattle.replies.specs.Replies.{kindReply}
 use Rattle.replies.proofs.Reply.{refusal}
 use Rattle.replies.proofs.kinds.kind_reply.Statement.{statement}

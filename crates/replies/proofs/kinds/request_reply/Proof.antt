@@ -2,7 +2,7 @@
 use borrow.Author.Tests.{lt-ltb, le-ltb}
 use mathlib.Core.Path.{refl}
 use borrow.Author.Needs.{needs}
-use Rattle.replies.specs.EventBytes.{requestOf}
+use Rattle.layout.specs.EventBytes.{requestOf}
 use Rattle.replies.specs.Replies.{kindReply}
 use Rattle.replies.proofs.Reply.{refusal, reply, same-controls}
 use Rattle.replies.proofs.kinds.request_reply.Statement.{statement}

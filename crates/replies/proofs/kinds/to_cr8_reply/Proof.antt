@@ -2,7 +2,7 @@
 use borrow.Author.Tests.{lt-ltb, le-ltb}
 use mathlib.Core.Path.{refl}
 use borrow.Author.Needs.{needs}
-use Rattle.replies.specs.EventBytes.{toCr8Of}
+use Rattle.layout.specs.EventBytes.{toCr8Of}
 use Rattle.replies.specs.Replies.{kindReply}
 use Rattle.replies.proofs.Reply.{refusal, reply, same-controls}
 use Rattle.replies.proofs.kinds.to_cr8_reply.Statement.{statement}

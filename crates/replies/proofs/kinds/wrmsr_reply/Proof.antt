@@ -1,7 +1,7 @@
 -- `replies::kinds::wrmsr_reply` meets its contract: the model's outcome on the fields that are read. Assumes nothing.
 use mathlib.Core.Path.{refl}
 use borrow.Author.Needs.{needs}
-use Rattle.replies.specs.EventBytes.{wrmsrOf}
+use Rattle.layout.specs.EventBytes.{wrmsrOf}
 use Rattle.replies.specs.Replies.{kindReply}
 use Rattle.replies.proofs.Reply.{reply, same-controls}
 use Rattle.replies.proofs.kinds.wrmsr_reply.Statement.{statement}

@@ -3,7 +3,7 @@
 use native.Mathlib.Omega.{arith}
 use mathlib.Core.Path.{_∙_}
 use borrow.Author.Needs.{needs}
-use Rattle.layout.proofs.RoundTrip.{kept-status}
+use Rattle.keeping.proofs.RoundTrip.{kept-status}
 use Rattle.replies.proofs.told.told_status.Statement.{statement}
 use Rattle.replies.proofs.told.told_status.Tie as tie
 

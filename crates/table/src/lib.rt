@@ -1,0 +1,2 @@
+// Which offsets of a page may be redirected, decided from numbers alone.
+pub mod offsets;
