@@ -1,6 +1,5 @@
 -- `procedures::delivery::delivered_record` meets its contract: the page is searched, and the record has what is found. Assumes nothing.
 use Rattle.registers.specs.Vectors.{highest}
-use borrow.Author.Needs.{needs}
 use Rattle.procedures.proofs.delivery.delivered_record.Statement.{statement}
 use Rattle.procedures.proofs.delivery.delivered_record.Tie as tie
 
