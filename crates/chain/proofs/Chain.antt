@@ -22,9 +22,9 @@ use Rattle.meaning.specs.Step.{stepBy, step, descriptorAfter}
 use Rattle.meaning.specs.Run.{Held, start, stepOf, heldAfter, after}
 use Rattle.meaning.specs.Widths.{ControlsFit, RecordFits, InputFits}
 use Rattle.meaning.proofs.Refused.{refusal-5}
-use Rattle.meaning.proofs.Condition1.{nothing-changes}
-use Rattle.meaning.proofs.Laws.{laws, fits}
-use Rattle.meaning.proofs.Invariant.{start-inv}
+use Rattle.conditions.proofs.Condition1.{nothing-changes}
+use Rattle.conditions.proofs.Laws.{laws, fits}
+use Rattle.conditions.proofs.Invariant.{start-inv}
 use Rattle.descriptor.specs.Descriptor.{descriptorFits}
 use Rattle.layout.specs.RecordBytes.{controlsOf, reservedZero, recordReadable, recordOf}
 use Rattle.keeping.specs.KeptBytes.{controlsBytes, truthByte, recordBytes, bytesOf, kept}

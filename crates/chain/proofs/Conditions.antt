@@ -14,13 +14,13 @@ use Rattle.registers.specs.Vectors.{highestSet, orElse, highest}
 use Rattle.meaning.specs.Input.{Input, given, external, leaves}
 use Rattle.meaning.specs.Step.{step}
 use Rattle.meaning.specs.Run.{Held, start, after}
-use Rattle.meaning.specs.History.{allOn, serving}
-use Rattle.meaning.specs.Condition3.{Highest, Recognition, Served, Rising, Retires, Keeps, AtMost15, Delivers16}
+use Rattle.conditions.specs.History.{allOn, serving}
+use Rattle.conditions.specs.Condition3.{Highest, Recognition, Served, Rising, Retires, Keeps, AtMost15, Delivers16}
 use Rattle.descriptor.specs.Descriptor.{descriptorFits}
-use Rattle.meaning.specs.Condition1.{ExternalAnswered}
-use Rattle.meaning.proofs.Condition1.{nothing-changes, external-answered}
-use Rattle.meaning.proofs.Invariant.{run-inv, start-inv}
-use Rattle.meaning.proofs.Theorems.{rvi-svi-highest, recognised-exactly, in-service-exactly, classes-rise, eoi-retires-latest, nothing-else-retires, at-most-15, none-below-16}
+use Rattle.conditions.specs.Condition1.{ExternalAnswered}
+use Rattle.conditions.proofs.Condition1.{nothing-changes, external-answered}
+use Rattle.conditions.proofs.Invariant.{run-inv, start-inv}
+use Rattle.conditions.proofs.Theorems.{rvi-svi-highest, recognised-exactly, in-service-exactly, classes-rise, eoi-retires-latest, nothing-else-retires, at-most-15, none-below-16}
 use Rattle.layout.specs.RecordBytes.{recordReadable, recordOf}
 use Rattle.keeping.specs.KeptBytes.{recordBytes, kept}
 use Rattle.layout.specs.EventBytes.{eventReadable, eventOf}

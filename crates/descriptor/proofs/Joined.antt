@@ -17,7 +17,7 @@ use Rattle.processor.proofs.Tests.{below, same}
 use Rattle.page.specs.Page.{byteAt, wordAt}
 use Rattle.stores.specs.Stores.{setByte, setWord}
 use Rattle.registers.specs.Vectors.{vectorByte, isSet}
-use Rattle.registers.proofs.Registers.{set-byte}
+use Rattle.registers.proofs.Bytes.{set-byte}
 use Rattle.registers.proofs.Words.{low-bit, byte-of}
 use Rattle.descriptor.specs.Descriptor.{posted, placeOf, withBits, joinedByte, joinedBelow, joined}
 

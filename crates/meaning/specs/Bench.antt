@@ -1,5 +1,5 @@
--- Document 01, "Bench cases" K1 to K12, one of the guest that leaves, both sides of E2 of document 02, and E1 of it, as rows of one table:
--- where a row starts, what is done, and what must come of it. Then rows of an external interrupt with its descriptor.
+-- Document 01, "Bench cases" K1 to K12, one of the guest that leaves, two of an EOI, both sides of E2 of document 02, and E1 of it, as rows
+-- of one table: where a row starts, what is done, and what must come of it. Then rows of an external interrupt with its descriptor.
 use Prim.Native.Nat.{ℕ}
 use mathlib.Core.Bool.{Bool, true, false, _&&_, Bool·beq}
 use mathlib.Core.List.{List, [], _∷_, _++_}
@@ -156,6 +156,9 @@ each (e ∷ es) = given e ∷ each es
 abbrev write300 : ℕ → Event
 write300 value = MemoryWrite 0x300 4 false false value
 
+abbrev writeEoi : Event
+writeEoi = MemoryWrite 0x0b0 4 false false 0
+
 -- a row that starts fresh
 abbrev fromFresh : List Input → List Numbers → Record → PageEnd → Row
 fromFresh is answers state page = record { begin = start; deed = inputs is; answers = answers; state = state; page = page }
@@ -196,7 +199,7 @@ k2 =
 
 abbrev pub k3 : Row
 k3 =
-    afterK1 (each (write300 0x0004_0071 ∷ boundaryOpen ∷ MemoryWrite 0x0b0 4 false false 0 ∷ [])) (quiet ∷ delivered 0x71 ∷ quiet ∷ [])
+    afterK1 (each (write300 0x0004_0071 ∷ boundaryOpen ∷ writeEoi ∷ [])) (quiet ∷ delivered 0x71 ∷ quiet ∷ [])
     (stateOf true 0 0x60 false controlsM) (word 0x130 1 ∷ word 0x0a0 0x60 ∷ [])
 
 -- one write to VICR_LO after K1 under M
@@ -258,6 +261,24 @@ abbrev pub leaving : Row
 leaving =
     afterK1 (given (write300 0x0004_0071) ∷ leaves ∷ leaves ∷ []) (quiet ∷ quiet ∷ refused 3 0 ∷ [])
     (stateOf false 0x71 0x60 false controlsM) (word 0x130 1 ∷ word 0x230 0x0002_0000 ∷ word 0x0a0 0x60 ∷ [])
+
+-- a page that is zero but for E0H and F0H in service, F5H requested and VPPR F0H
+abbrev waitingPage : List ℕ
+waitingPage = setByte (setVector (setVector (setVector zeroPage visr 0xe0) visr 0xf0) virr 0xf5) vppr 0xf0
+
+-- the EOI of F0H while F5H waits: its answer, mode and recognition
+abbrev eoiAtF0 : Controls → Numbers → Bool → Bool → Row
+eoiAtF0 c a guest recognised =
+    oneEvent waitingPage (stateOf true 0xf5 0xf0 false c) writeEoi a (stateOf guest 0xf5 0xe0 recognised c)
+    (words (word 0x170 1 ∷ word 0x0a0 0xe0 ∷ []))
+
+-- M with the EOI-exit bit of F0H
+abbrev controlsE : Controls
+controlsE = record { flags = 0x33; threshold = 0; notification = 0; «eoi_exit_0» = 0; «eoi_exit_1» = 0; «eoi_exit_2» = 0; «eoi_exit_3» = 0x1_0000_0000_0000 }
+
+-- evaluation recognises F5H; after exit 45 nothing is recognised
+abbrev pub eoiRows : List Row
+eoiRows = eoiAtF0 controlsM quiet true true ∷ eoiAtF0 controlsE (exit 45 0xf0) false false ∷ []
 
 -- E2: an entry at VTPR 4F and VPPR 70, from root mode with RVI 52, SVI 31, an interrupt recognised and controls of its own
 abbrev entryPage : List ℕ
@@ -329,11 +350,11 @@ postedRun =
     fromFresh (given (Entry controlsP) ∷ external twoPosted 0xf2 ∷ given boundaryOpen ∷ []) (quiet ∷ quiet ∷ delivered 0x71 ∷ [])
     (stateOf true 0x31 0x71 false controlsP) (words (word 0x130 0x0002_0000 ∷ word 0x210 0x0002_0000 ∷ word 0x230 0 ∷ word 0x0a0 0x70 ∷ []))
 
--- K1 to K12, the guest that leaves, both sides of E2, and E1
+-- K1 to K12, the guest that leaves, an EOI with a request waiting, both sides of E2, and E1
 abbrev pub benchRows : List Row
 benchRows =
-    (k1 ∷ k1UnderM ∷ k2 ∷ k3 ∷ k4 ∷ k5 ∷ []) ++ k6 ++ k7 ++ k8 ++ k9 ++ k10 ++ k11 ++ (k12 ∷ leaving ∷ []) ++ thresholds ++ postingChecks ++
-    (postedRun ∷ [])
+    (k1 ∷ k1UnderM ∷ k2 ∷ k3 ∷ k4 ∷ k5 ∷ []) ++ k6 ++ k7 ++ k8 ++ k9 ++ k10 ++ k11 ++ (k12 ∷ leaving ∷ []) ++ eoiRows ++ thresholds ++
+    postingChecks ++ (postedRun ∷ [])
 
 -- a row of one external interrupt: page, record, descriptor and vector; then answer, record, page and every byte of the descriptor
 pub record Interrupt : Type 0 where

@@ -10,11 +10,5 @@ pub mod Leave
 pub mod Refusals
 pub mod Step
 pub mod Run
-pub mod Condition1
-pub mod Bench
-pub mod Moves
-pub mod Requests
-pub mod Settled
 pub mod Widths
-pub mod History
-pub mod Condition3
+pub mod Bench

@@ -5,7 +5,6 @@ use Rattle.processor.specs.declared.controls.Controls.{Controls}
 use Rattle.processor.specs.declared.controls.Record.{Record}
 use Rattle.events.specs.declared.event.Event.the-variants.{Entry}
 use Rattle.meaning.specs.Input.{Input, given}
-use Rattle.meaning.specs.Settled.{ByteRecord}
 
 pub record ControlsFit (c : Controls) : Type 0 where
   pub flags : c .flags < 2 ^ 32
@@ -15,6 +14,11 @@ pub record ControlsFit (c : Controls) : Type 0 where
   pub eoi₁ : c .«eoi_exit_1» < 2 ^ 64
   pub eoi₂ : c .«eoi_exit_2» < 2 ^ 64
   pub eoi₃ : c .«eoi_exit_3» < 2 ^ 64
+
+-- RVI and SVI are one byte each
+pub record ByteRecord (r : Record) : Type 0 where
+  pub rvi : r .rvi < 256
+  pub svi : r .svi < 256
 
 pub record RecordFits (r : Record) : Type 0 where
   pub vectors : ByteRecord r

@@ -1,1 +1,1 @@
-// What one input leaves, a run over a list of inputs, and what every run keeps: definitions (specs/) and theorems (proofs/), no code.
+// What one input leaves, a run over a list of inputs, and the bench: definitions (specs/), and that its rows hold (proofs/), no code.

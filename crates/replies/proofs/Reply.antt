@@ -12,7 +12,7 @@ use Rattle.events.specs.declared.event.Event.the-variants.{Entry, Request, Memo
 use Rattle.meaning.specs.Input.{Input, given, external, leaves}
 use Rattle.meaning.specs.After.{After, Leaves}
 use Rattle.meaning.specs.Step.{step}
-use Rattle.meaning.proofs.Laws.{controls-after}
+use Rattle.conditions.proofs.Laws.{controls-after}
 use Rattle.layout.specs.RecordBytes.{controlsOf, recordOf}
 use Rattle.replies.specs.Replies.{Told, Replies, refused, refusedLent, replied, RepliesLent}
 

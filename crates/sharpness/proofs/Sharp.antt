@@ -19,8 +19,8 @@ use Rattle.meaning.specs.Boundary.{deliveredPage, deliveredRecord, delivery, bo
 use Rattle.meaning.specs.Refusals.{refusalOf}
 use Rattle.meaning.specs.Step.{eventOut, carriedOut, stepBy, step}
 use Rattle.meaning.specs.Run.{start, after}
-use Rattle.meaning.specs.History.{allOn}
-use Rattle.meaning.specs.Condition3.{depth, Recognition}
+use Rattle.conditions.specs.History.{allOn}
+use Rattle.conditions.specs.Condition3.{depth, Recognition}
 use Rattle.sharpness.specs.Examples.{fifteenDeep, deliveryOff}
 
 -- every entry of the run has virtual-interrupt delivery on, and fifteen are then in service

@@ -1,0 +1,13 @@
+pub mod Stored
+pub mod Kept
+pub mod Put
+pub mod Raised
+pub mod Posting
+pub mod AnyOrder
+pub mod Endings
+pub mod Condition1
+pub mod Good
+pub mod Laws
+pub mod Ladder
+pub mod Invariant
+pub mod Theorems

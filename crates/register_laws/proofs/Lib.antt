@@ -1,0 +1,3 @@
+pub mod Registers
+pub mod Finds
+pub mod Searches
