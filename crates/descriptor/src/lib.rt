@@ -1,3 +1,3 @@
-// The lent descriptor into which others post: its highest posted vector, and what a notification takes out of it. A slice may have
+// The lent descriptor into which others post: its length, its highest posted vector, and what becomes of RVI by it. A slice may have
 // any length.
 pub mod posted;

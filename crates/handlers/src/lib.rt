@@ -1,6 +1,4 @@
-// What carries an event out that nothing refuses.
-pub mod boundary;
+// What carries out an access to memory, to CR8 or to an MSR that nothing refuses.
 pub mod cr8;
-pub mod entry;
 pub mod memory;
 pub mod msr;

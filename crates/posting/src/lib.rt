@@ -2,11 +2,11 @@
 ghost use mathlib.Core.Path.{_≡_};
 ghost use Rattle.descriptor.specs.Descriptor.{cleared};
 ghost use Rattle.meaning.specs.External.{notifies as notifiesBy, postedRecord, posting as postingOf, externalInterrupt, descriptorOut, LeavesLent};
-use descriptor::posted::clear;
 use descriptor::posted::highest_posted;
-use descriptor::posted::join;
 use descriptor::posted::raised_by;
 use events::answer::Outcome;
+use joining::clear;
+use joining::join;
 use procedures::outcome::exit;
 use procedures::outcome::passthrough;
 use procedures::virtualization::evaluated_quiet;

@@ -20,7 +20,7 @@ use processor::offsets::VPPR;
 use processor::offsets::VTPR;
 use registers::found::NONE_COUNTS_AS;
 use registers::vectors::highest_service;
-use registers::vectors::put_vector;
+use setting::put_vector;
 use stores::bytes::set_word;
 
 // VPPR from VTPR and SVI.

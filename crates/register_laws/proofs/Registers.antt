@@ -14,7 +14,7 @@ use Rattle.processor.proofs.Tests.{below, same}
 use Rattle.page.specs.Page.{byteAt}
 use Rattle.stores.specs.Stores.{setByte}
 use Rattle.registers.specs.Vectors.{vectorByte, putBit, isSet, put, putVector, highest}
-use Rattle.registers.proofs.Bits.{at-byte, both, of-both}
+use Rattle.setting.proofs.Bits.{at-byte, both, of-both}
 use Rattle.registers.proofs.Top.{highest-top, highest-same, top-fewer, top-below}
 
 -- one bit of a byte changed, read at each bit: on and off, computed at every byte and pair of bits

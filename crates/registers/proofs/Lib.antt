@@ -1,4 +1,3 @@
-pub mod Bits
 pub mod Part
 pub mod Bytes
 pub mod Highest
