@@ -8,6 +8,8 @@
  * gg_step carries out one event on the two and answers; gg_external_interrupt carries out the one event that
  * takes a third part, the descriptor into which others post while the guest runs; gg_leave takes the guest out
  * for a reason that is no event of the model; gg_highest reads a page and tells its highest request or service.
+ * gg_replay runs a trace, the bytes of a recorded session, on a processor of its own and writes the answers as
+ * text; the gg_trace functions record such a trace beside gg_step.
  * The library keeps nothing from one call to the next.
  * Offsets, vectors, reasons and numbers are those of the project's build scope.
  */
@@ -31,7 +33,7 @@ GG_STATIC_ASSERT(__BYTE_ORDER__ == __ORDER_LITTLE_ENDIAN__, "the record and even
 
 /* The major number grows where a promise changes, the minor one where something is added. */
 #define GG_VERSION_MAJOR 2
-#define GG_VERSION_MINOR 1
+#define GG_VERSION_MINOR 2
 
 /* Lengths that the functions accept; any other length is refused. */
 enum {
@@ -102,7 +104,7 @@ enum {
     GG_WAIT_FOR_SIPI = 3
 };
 
-/* Answers: what all but gg_fresh and gg_highest return; the comment names what first and second hold. */
+/* Answers: what all but gg_fresh, gg_highest and gg_replay return; the comment names first and second. */
 enum {
     GG_REFUSED = 0,     /* refusal, failing entry check (0 but for refusal 4) */
     GG_REDIRECTED = 1,  /* value read */
@@ -119,6 +121,39 @@ enum {
     GG_HIGHEST_VECTOR = 1,  /* the highest set vector, 0 where bit 0 alone is set */
     GG_HIGHEST_NONE = 2     /* no bit is set */
 };
+
+/* Answers of gg_replay, two of its own. */
+enum {
+    GG_REPLAY_TOO_SHORT = 0, /* the buffer is shorter than the text */
+    GG_REPLAY_WRITTEN = 1    /* the text stands in the buffer */
+};
+
+/* After so many records the program replay stops; gg_replay takes its limit from the caller. */
+enum {
+    GG_REPLAY_LIMIT = 10000
+};
+
+/*
+ * A buffer that is long enough for the text of every trace, by the limit. A record's line has at most 50 bytes:
+ * a record number of 5 digits, an answer of 1, two numbers of 20 each, three blanks and the line's end. The last
+ * line has at most 11.
+ */
+#define GG_REPLAY_ROOM(limit) ((size_t)50 * (limit) + 11)
+
+/*
+ * A trace: a version byte, then records. A record is the length of its body in two bytes, then the body: a kind
+ * and its fields. All numbers are big-endian. The kinds are those of gg_event.kind, and the controls as one
+ * more.
+ */
+enum {
+    GG_TRACE_VERSION = 1,
+    GG_TRACE_LENGTH = 61440,      /* the longest trace that is replayed */
+    GG_TRACE_CONTROLS = 0,        /* the kind of the controls that later entries bring */
+    GG_TRACE_CONTROLS_LENGTH = 39 /* of their body, the longest */
+};
+
+/* The controls that a trace can hold; those of posted interrupts stay off in it. */
+#define GG_TRACE_ALL_CONTROLS ((UINT32_C(1) << 9) - 1)
 
 /* Refusals, in the order in which they are tested; none changes page, record or descriptor. */
 enum {
@@ -307,6 +342,29 @@ uint32_t gg_leave(uint8_t *record, size_t record_len, uint64_t *first, uint64_t 
  */
 uint32_t gg_highest(const uint8_t *page, size_t page_len, uint32_t base, uint64_t *first, uint64_t *second);
 
+/*
+ * Replays a trace on a page of zeros and a fresh record, both its own, and writes what is answered as text.
+ * Numbers are decimal, each line ends with a line feed, and no zero byte follows the last:
+ *   a line for each record, "NUMBER ANSWER FIRST SECOND": the record's number from 1 on, its answer, GG_REFUSED
+ *     to GG_QUIET, and the answer's two numbers; controls are GG_QUIET in either mode;
+ *   then "done COUNT", the number of these lines: the trace has ended, or it has had limit records, whatever
+ *     follows them;
+ *   or "bad NUMBER", the number of the first record that can't be read: it is cut short, its kind is unknown,
+ *     its length isn't its kind's, or an unused flag bit is set. A record that can be read and has a field out
+ *     of bounds is refused by GG_REFUSED_BOUNDS and has its line.
+ * A trace without the version byte, with another one, or above GG_TRACE_LENGTH bytes gives "bad 0" alone.
+ * An entry brings the controls of the last record of controls, all zero before the first.
+ * It returns one of two answers:
+ *   GG_REPLAY_WRITTEN: the text stands at the start of out, its length in *written, the rest of out stays;
+ *   GG_REPLAY_TOO_SHORT, out is shorter than the text: every byte of out stays, and *written is 0.
+ * An out of GG_REPLAY_ROOM(limit) bytes is never too short, and the trace is gone through once; for a shorter
+ * one the text is measured first.
+ * A null trace or out with length 0 is as any empty one; with another length, each points to that many bytes, at
+ * any address. written is never null. Nothing overlaps.
+ */
+uint32_t gg_replay(const uint8_t *trace, size_t trace_len, uint32_t limit, uint8_t *out, size_t out_len,
+                   uint64_t *written);
+
 /* An event of a kind with every other field zero; the constructors below start from it. */
 static inline struct gg_event gg_event_of(uint8_t kind)
 {
@@ -494,6 +552,203 @@ static inline uint32_t gg_word(const uint8_t *page, uint32_t offset)
 static inline int gg_vector_is_set(const uint8_t *page, uint32_t base, uint8_t vector)
 {
     return (int)(gg_word(page, base + 16u * (vector / 32u)) >> (vector % 32u) & 1u);
+}
+
+/*
+ * A trace in the making, in a buffer of the caller's. A simulator starts it where its processor is fresh and
+ * records each event beside gg_step, by gg_trace_event; bytes and length are then what gg_replay takes.
+ * Each function that adds a record returns 1. It returns 0 and leaves every byte of the buffer where the record
+ * has no room there or within GG_TRACE_LENGTH bytes, or where the format can't hold it: a control above 8, a
+ * notification vector, an offset above FFFFH, a CR8 value or a vector above 255, an unused flag bit, an unknown
+ * kind. What the format can hold is recorded, out of bounds or not.
+ * gg_external_interrupt and gg_leave have no record, and neither has a store to page or record by the caller.
+ * Where one of these has changed something, the trace is no longer that of the session.
+ */
+struct gg_trace {
+    uint8_t *bytes;  /* the buffer */
+    size_t capacity; /* how many of its bytes the trace may have */
+    size_t length;   /* how many it has, the version byte among them */
+    size_t controls; /* where the body of the last controls stands, 0 before the first */
+};
+
+/* Starts a trace by its version byte. A buffer of length 0, null or not, takes neither it nor a record. */
+static inline struct gg_trace gg_trace_start(uint8_t *buffer, size_t buffer_len)
+{
+    struct gg_trace trace;
+    trace.bytes = buffer;
+    trace.capacity = buffer_len < GG_TRACE_LENGTH ? buffer_len : (size_t)GG_TRACE_LENGTH;
+    trace.length = 0;
+    trace.controls = 0;
+    if (buffer_len > 0)
+        trace.bytes[trace.length++] = GG_TRACE_VERSION;
+    return trace;
+}
+
+/* Whether so many bytes more have room. */
+static inline int gg_trace_has_room(const struct gg_trace *trace, size_t count)
+{
+    return count <= trace->capacity - trace->length;
+}
+
+/* Writes the low bytes of a number, the highest of them first. */
+static inline void gg_trace_number(uint8_t *to, int count, uint64_t number)
+{
+    for (; count > 0; count--, number >>= 8)
+        to[count - 1] = (uint8_t)number;
+}
+
+/* Adds a record by its body, whatever that holds and however long it is. */
+static inline int gg_trace_body(struct gg_trace *trace, const uint8_t *body, size_t body_len)
+{
+    if (body_len > GG_TRACE_LENGTH || !gg_trace_has_room(trace, 2 + body_len))
+        return 0;
+    gg_trace_number(trace->bytes + trace->length, 2, body_len);
+    trace->length += 2;
+    for (size_t i = 0; i < body_len; i++)
+        trace->bytes[trace->length++] = body[i];
+    return 1;
+}
+
+/* Writes the body of controls; eoi_exit as in gg_entry. */
+static inline void gg_trace_controls_body(uint8_t *body, uint32_t controls, uint32_t threshold,
+                                          const uint64_t *eoi_exit)
+{
+    body[0] = GG_TRACE_CONTROLS;
+    gg_trace_number(body + 1, 2, controls);
+    gg_trace_number(body + 3, 4, threshold);
+    for (int word = 0; word < 4; word++)
+        gg_trace_number(body + 7 + 8 * word, 8, eoi_exit ? eoi_exit[word] : 0);
+}
+
+/* The controls of later entries, until others are recorded; they are no event of the model. */
+static inline int gg_trace_controls(struct gg_trace *trace, uint32_t controls, uint32_t threshold,
+                                    const uint64_t *eoi_exit)
+{
+    uint8_t body[GG_TRACE_CONTROLS_LENGTH];
+    gg_trace_controls_body(body, controls, threshold, eoi_exit);
+    if (controls > GG_TRACE_ALL_CONTROLS || !gg_trace_body(trace, body, sizeof body))
+        return 0;
+    trace->controls = trace->length - sizeof body;
+    return 1;
+}
+
+/* An entry with the controls recorded last, all zero before the first. */
+static inline int gg_trace_entry(struct gg_trace *trace)
+{
+    const uint8_t body[] = {GG_ENTRY};
+    return gg_trace_body(trace, body, sizeof body);
+}
+
+/* The others take what the constructors of their events take. */
+static inline int gg_trace_request(struct gg_trace *trace, uint32_t vector)
+{
+    const uint8_t body[] = {GG_REQUEST, (uint8_t)vector};
+    return vector <= 0xFF && gg_trace_body(trace, body, sizeof body);
+}
+
+/* Whether offset and flags of a memory access can be held. */
+static inline int gg_trace_holds_access(uint32_t offset, uint8_t flags)
+{
+    return offset <= 0xFFFF && flags <= (GG_INSTRUCTION_FETCH | GG_ALREADY_VIRTUALISED);
+}
+
+static inline int gg_trace_memory_read(struct gg_trace *trace, uint32_t offset, uint8_t size, uint8_t flags)
+{
+    const uint8_t body[] = {GG_MEMORY_READ, (uint8_t)(offset >> 8), (uint8_t)offset, size, flags};
+    return gg_trace_holds_access(offset, flags) && gg_trace_body(trace, body, sizeof body);
+}
+
+static inline int gg_trace_memory_write(struct gg_trace *trace, uint32_t offset, uint8_t size, uint64_t value,
+                                        uint8_t flags)
+{
+    uint8_t body[13] = {GG_MEMORY_WRITE, (uint8_t)(offset >> 8), (uint8_t)offset, size, flags};
+    gg_trace_number(body + 5, 8, value);
+    return gg_trace_holds_access(offset, flags) && gg_trace_body(trace, body, sizeof body);
+}
+
+static inline int gg_trace_to_cr8(struct gg_trace *trace, uint64_t value, uint8_t source)
+{
+    const uint8_t body[] = {GG_TO_CR8, (uint8_t)value, source};
+    return value <= 0xFF && gg_trace_body(trace, body, sizeof body);
+}
+
+static inline int gg_trace_from_cr8(struct gg_trace *trace, uint8_t target)
+{
+    const uint8_t body[] = {GG_FROM_CR8, target};
+    return gg_trace_body(trace, body, sizeof body);
+}
+
+static inline int gg_trace_rdmsr(struct gg_trace *trace, uint32_t index)
+{
+    uint8_t body[5] = {GG_RDMSR};
+    gg_trace_number(body + 1, 4, index);
+    return gg_trace_body(trace, body, sizeof body);
+}
+
+static inline int gg_trace_wrmsr(struct gg_trace *trace, uint32_t index, uint64_t value)
+{
+    uint8_t body[13] = {GG_WRMSR};
+    gg_trace_number(body + 1, 4, index);
+    gg_trace_number(body + 5, 8, value);
+    return gg_trace_body(trace, body, sizeof body);
+}
+
+static inline int gg_trace_boundary(struct gg_trace *trace, uint8_t flags, uint8_t activity)
+{
+    const uint8_t body[] = {GG_BOUNDARY, flags, activity};
+    return flags <= (GG_IF | GG_BLOCKING_BY_STI | GG_BLOCKING_BY_MOV_SS) &&
+           gg_trace_body(trace, body, sizeof body);
+}
+
+/* Whether the controls recorded last have this body. */
+static inline int gg_trace_last_controls_are(const struct gg_trace *trace, const uint8_t *body)
+{
+    size_t same = 0;
+    while (trace->controls && same < GG_TRACE_CONTROLS_LENGTH &&
+           trace->bytes[trace->controls + same] == body[same])
+        same++;
+    return same == GG_TRACE_CONTROLS_LENGTH;
+}
+
+/* An entry event: its controls, but where they are those recorded last, then the entry; both or neither. */
+static inline int gg_trace_entry_event(struct gg_trace *trace, const struct gg_event *event)
+{
+    uint8_t body[GG_TRACE_CONTROLS_LENGTH];
+    uint32_t controls = (uint32_t)event->value;
+    gg_trace_controls_body(body, controls, event->number, event->eoi_exit);
+    if (event->value > GG_TRACE_ALL_CONTROLS)
+        return 0;
+    if (gg_trace_last_controls_are(trace, body))
+        return gg_trace_entry(trace);
+    return gg_trace_has_room(trace, 2 + sizeof body + 2 + 1) &&
+           gg_trace_controls(trace, controls, event->number, event->eoi_exit) && gg_trace_entry(trace);
+}
+
+/* Records an event as gg_step gets it; a field that the kind does not name is ignored. */
+static inline int gg_trace_event(struct gg_trace *trace, const struct gg_event *event)
+{
+    switch (event->kind) {
+    case GG_ENTRY:
+        return gg_trace_entry_event(trace, event);
+    case GG_MEMORY_READ:
+        return gg_trace_memory_read(trace, event->number, event->size, event->flags);
+    case GG_MEMORY_WRITE:
+        return gg_trace_memory_write(trace, event->number, event->size, event->value, event->flags);
+    case GG_TO_CR8:
+        return gg_trace_to_cr8(trace, event->value, event->detail);
+    case GG_FROM_CR8:
+        return gg_trace_from_cr8(trace, event->detail);
+    case GG_RDMSR:
+        return gg_trace_rdmsr(trace, event->number);
+    case GG_WRMSR:
+        return gg_trace_wrmsr(trace, event->number, event->value);
+    case GG_BOUNDARY:
+        return gg_trace_boundary(trace, event->flags, event->detail);
+    case GG_REQUEST:
+        return gg_trace_request(trace, event->number);
+    default:
+        return 0;
+    }
 }
 
 #ifdef __cplusplus

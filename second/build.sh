@@ -51,14 +51,27 @@ build_compare() {
             audit show tally stage named named_posting null matters compare) "$1" -o "$out/compare"
 }
 
-# The second program's rules and boundary once more, searching by words, each function under a name of its own.
+# What makes traces, and what that makes use of.
+trace_sources() {
+    sources trial generate junk sweep question posting trace author replay_faults
+}
+
+# build_replays ARCHIVE
+build_replays() {
+    need_archive "$1" &&
+        $CC $flags $(sources oracle bounds open edge faults show replay attempt traces listing replay_tally \
+            replay_named recorded replays) $(trace_sources) "$1" -o "$out/replays"
+}
+
+# The second program's rules, boundary and replay once more, searching by words, each function under its own name.
 build_words() {
     renamed=
     for function_name in oracle_step oracle_external_interrupt oracle_leave oracle_highest edge_cpu \
-        edge_happening second_step second_external_interrupt second_leave second_highest second_fresh; do
+        edge_happening second_step second_external_interrupt second_leave second_highest second_fresh \
+        second_replay; do
         renamed="$renamed -D$function_name=${function_name}_words"
     done
-    for source_name in oracle edge; do
+    for source_name in oracle edge replay; do
         $CC $flags -DWITHOUT_FAULTS -DSCAN_WORDS $renamed -c "$root/second/$source_name.c" \
             -o "$out/${source_name}_words.o" || return 1
     done
@@ -69,6 +82,13 @@ build_bench() {
     need_archive "$1" && build_words &&
         $CC $flags -DWITHOUT_FAULTS $(sources oracle bounds open edge workload counter bench) \
             "$out/oracle_words.o" "$out/edge_words.o" "$1" -o "$out/bench"
+}
+
+# build_replay_bench ARCHIVE: the replays, in the same manner
+build_replay_bench() {
+    need_archive "$1" && build_words &&
+        $CC $flags -DWITHOUT_FAULTS $(sources oracle bounds open edge replay replay_bench) \
+            $(trace_sources) "$out/oracle_words.o" "$out/replay_words.o" "$1" -o "$out/replay_bench"
 }
 
 # build_simulator ARCHIVE

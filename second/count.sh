@@ -1,5 +1,6 @@
 #!/bin/sh
 # Counts instructions per event: count.sh [--archive ARCHIVE] [--all | WORKLOAD...]
+# or per record of a replayed trace: count.sh [--archive ARCHIVE] --replay [WORKLOAD...]
 # A workload runs at two lengths; the difference leaves out what a start costs.
 # With near-empty and full among the workloads, a last row counts a search over seven empty words.
 set -eu
@@ -12,28 +13,34 @@ if [ "${1:-}" = --archive ]; then
 fi
 . "$root/second/toolchain.sh"
 . "$root/second/build.sh"
-build_bench "$archive"
 
-short=200
-long=1200
+# A round is a workload's few events, or a whole trace.
+if [ "${1:-}" = --replay ]; then
+    shift
+    program=$out/replay_bench short=1 long=3 chosen=${*:---all}
+    build_replay_bench "$archive"
+else
+    program=$out/bench short=200 long=1200 chosen=${*:-mix nesting near-empty full}
+    build_bench "$archive"
+fi
 plugin=$out/count_plugin.so
 
 # The plugin interface has a version; the first that the emulator takes is used.
 make_plugin() {
     for version in 1 2 3 4 5 6; do
         cc -std=c11 -O2 -shared -fPIC -DVERSION=$version "$root/second/count_plugin.c" -o "$plugin" || return 1
-        qemu-x86_64 -plugin "$plugin" "$out/bench" --list >/dev/null 2>&1 && return 0
+        qemu-x86_64 -plugin "$plugin" "$program" --list >/dev/null 2>&1 && return 0
     done
     return 1
 }
 
 with_callgrind() {
-    valgrind --tool=callgrind --callgrind-out-file=/dev/null "$out/bench" --only "$@" 2>&1 |
+    valgrind --tool=callgrind --callgrind-out-file=/dev/null "$program" --only "$@" 2>&1 |
         sed -n 's/^.*Collected *: *//p'
 }
 
 with_plugin() {
-    qemu-x86_64 -plugin "$plugin" "$out/bench" --only "$@" 2>&1 | sed -n 's/^instructions //p'
+    qemu-x86_64 -plugin "$plugin" "$program" --only "$@" 2>&1 | sed -n 's/^instructions //p'
 }
 
 # The plugin belongs to the emulator, so the machine's own compiler builds it.
@@ -56,12 +63,11 @@ per_event() {
     echo "$low $high $(((long - short) * $3))" | awk '{ printf "%.1f", ($2 - $1) / $3 }'
 }
 
-chosen=${*:-mix nesting near-empty full}
-[ "$chosen" = --all ] && chosen=$($RUN "$out/bench" --list | awk '{ print $1 }')
-runners=$($RUN "$out/bench" --runners)
+[ "$chosen" = --all ] && chosen=$($RUN "$program" --list | awk '{ print $1 }')
+runners=$($RUN "$program" --runners)
 
 # Figures compare equal work only.
-$RUN "$out/bench" --agree || exit 1
+$RUN "$program" --agree || exit 1
 
 # row NAME FIGURE...: the figures, then the model's over each of the others
 row() {
@@ -83,7 +89,7 @@ printf '%13s' $(echo $runners | awk '{ for (i = 2; i <= NF; i++) print "/" $i }'
 printf '\n'
 near_empty= full=
 for workload in $chosen; do
-    events=$($RUN "$out/bench" --list | awk -v name="$workload" '$1 == name { print $2 }')
+    events=$($RUN "$program" --list | awk -v name="$workload" '$1 == name { print $2 }')
     if [ -z "$events" ]; then
         echo "count.sh: no workload $workload" >&2
         exit 2

@@ -1,8 +1,8 @@
 /* Holds the header to C11 and C++11, compiled once as each: every function is used, nothing is linked. */
 #include "garlandgrid.h"
 
-#if GG_VERSION_MAJOR != 2 || GG_VERSION_MINOR != 1
-#error "the checks of this folder are those of version 2.1"
+#if GG_VERSION_MAJOR != 2 || GG_VERSION_MINOR != 2
+#error "the checks of this folder are those of version 2.2"
 #endif
 
 /* The numbers of posted interrupts are those of document 02. */
@@ -15,8 +15,23 @@ GG_STATIC_ASSERT(GG_CHECK_POSTED_INTERRUPTS == 5, "posting has check 5");
 GG_STATIC_ASSERT(GG_EXIT_EXTERNAL_INTERRUPT == 1, "an external interrupt is exit 1");
 GG_STATIC_ASSERT(sizeof((struct gg_record *)0)->notification_vector == 2, "a notification vector has 16 bits");
 
+/* So are those of a replay. */
+GG_STATIC_ASSERT(GG_TRACE_VERSION == 1, "a trace has version 1");
+GG_STATIC_ASSERT(GG_TRACE_LENGTH == 61440, "a trace has at most 61,440 bytes");
+GG_STATIC_ASSERT(GG_TRACE_CONTROLS == 0, "controls are kind 0");
+GG_STATIC_ASSERT(GG_TRACE_CONTROLS_LENGTH == 39, "with 39 bytes");
+GG_STATIC_ASSERT(GG_TRACE_ALL_CONTROLS == 0x1FF, "of bits 0 to 8");
+GG_STATIC_ASSERT(GG_REPLAY_LIMIT == 10000, "the program stops after 10,000 records");
+
+/* A buffer's length is a size_t, whatever the limit's type is. */
+GG_STATIC_ASSERT(GG_REPLAY_ROOM(GG_REPLAY_LIMIT) == 500011, "room for 10,000 records");
+GG_STATIC_ASSERT(GG_REPLAY_ROOM(UINT32_MAX) == UINT64_C(214748364761), "room for the highest limit");
+GG_STATIC_ASSERT(sizeof GG_REPLAY_ROOM(1) == sizeof(size_t), "room in the type of a length");
+
 struct gg_answer header(uint8_t *page, struct gg_record *record, uint32_t choice);
 struct gg_answer posting(uint8_t *page, struct gg_record *record, uint8_t *descriptor);
+int recording(uint8_t *buffer, size_t buffer_len, const struct gg_event *event);
+uint64_t replaying(const struct gg_trace *trace, uint8_t *text, size_t text_len);
 
 struct gg_answer header(uint8_t *page, struct gg_record *record, uint32_t choice)
 {
@@ -59,4 +74,32 @@ struct gg_answer posting(uint8_t *page, struct gg_record *record, uint8_t *descr
             gg_external_interrupt(page, GG_PAGE_LENGTH, (uint8_t *)record, sizeof *record, descriptor,
                                   GG_DESCRIPTOR_LENGTH, 0xF2, &answer.first, &answer.second);
     return answer;
+}
+
+/* A record of every kind, and one by its body. */
+int recording(uint8_t *buffer, size_t buffer_len, const struct gg_event *event)
+{
+    const uint64_t exits[4] = {1, 2, 3, 4};
+    const uint8_t unknown[] = {10};
+    struct gg_trace trace = gg_trace_start(buffer, buffer_len);
+    int recorded = gg_trace_controls(&trace, GG_TRACE_ALL_CONTROLS, 15, exits) +
+                   gg_trace_controls(&trace, 0, 0, NULL) + gg_trace_entry(&trace) +
+                   gg_trace_memory_read(&trace, GG_VTPR, 4, GG_INSTRUCTION_FETCH) +
+                   gg_trace_memory_write(&trace, GG_VICR_LO, 4, 0x40071, GG_ALREADY_VIRTUALISED) +
+                   gg_trace_to_cr8(&trace, 5, 1) + gg_trace_from_cr8(&trace, 2) +
+                   gg_trace_rdmsr(&trace, 0x808) + gg_trace_wrmsr(&trace, 0x83F, 0x71) +
+                   gg_trace_boundary(&trace, GG_IF, GG_HLT) + gg_trace_request(&trace, 255) +
+                   gg_trace_event(&trace, event);
+    if (gg_trace_has_room(&trace, 3))
+        recorded += gg_trace_body(&trace, unknown, sizeof unknown);
+    return recorded;
+}
+
+uint64_t replaying(const struct gg_trace *trace, uint8_t *text, size_t text_len)
+{
+    uint64_t written = 0;
+    uint32_t limit = text_len < GG_REPLAY_ROOM(GG_REPLAY_LIMIT) ? 1 : GG_REPLAY_LIMIT;
+    if (gg_replay(trace->bytes, trace->length, limit, text, text_len, &written) == GG_REPLAY_TOO_SHORT)
+        return gg_replay(NULL, 0, 0, text, text_len, &written) == GG_REPLAY_WRITTEN ? written : 0;
+    return written;
 }

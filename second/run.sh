@@ -43,23 +43,37 @@ simulator() {
         diff "$root/examples/simulator/expected.txt" "$out/simulator.txt"
 }
 
-# find_fault FAULT COMMAND: a fault counts as found only by a reported difference.
+# Every stored trace has its stored text.
+stored() {
+    for trace in "$root"/traces/*.trace "$root"/examples/sessions/*.trace; do
+        $RUN "$out/replays" print <"$trace" | cmp - "${trace%.trace}.expected" || return 1
+    done
+}
+
+# find_fault PROGRAM FAULT COMMAND: a fault counts as found only by a reported difference.
 find_fault() {
-    report=$($RUN "$out/compare" --fault "$1" "$2")
+    report=$($RUN "$out/$1" --fault "$2" "$3")
     found=$?
     echo "$report"
     echo "$report" | grep -q '^difference at ' && return "$found"
     return 0
 }
 
-# The comparison and the search for each fault take longest, so two lanes run them beforehand: each takes the next that
+# jobs_of PROGRAM: its gate and its faults
+jobs_of() {
+    for job_name in gate $(faults "$1"); do
+        echo "$1:$job_name"
+    done
+}
+
+# The comparisons and the search for each fault take longest, so two lanes run them beforehand: each takes the next that
 # the other has not, and leaves what it printed and its status.
 lane() {
-    for job in gate $(faults); do
+    for job in $(jobs_of compare) $(jobs_of replays); do
         mkdir "$tried/$job" 2>/dev/null || continue
         case $job in
-        gate) $RUN "$out/compare" gate ;;
-        *) find_fault "$job" gate ;;
+        *:gate) $RUN "$out/${job%:gate}" gate ;;
+        *) find_fault "${job%%:*}" "${job#*:}" gate ;;
         esac >"$tried/$job/out" 2>&1
         echo $? >"$tried/$job/status"
     done
@@ -80,39 +94,60 @@ says() {
     done
 }
 
-# The names of the faults, none where the program is not there.
+# faults PROGRAM: the names of its faults, none where the program is not there
 faults() {
-    $RUN "$out/compare" faults 2>/dev/null | cut -d' ' -f1
+    $RUN "$out/$1" faults 2>/dev/null | cut -d' ' -f1
 }
 
-rm -f "$out/compare" "$out/bench" "$out/simulator"
+# at_least COUNT PROGRAM: it has so many faults
+at_least() {
+    [ "$(faults "$2" | wc -l)" -ge "$1" ]
+}
+
+rm -f "$out/compare" "$out/replays" "$out/bench" "$out/replay_bench" "$out/simulator"
 expect 0 header-c build_header_c
 expect 0 header-cpp build_header_cpp
 expect 0 build-compare build_compare "$archive"
+expect 0 build-replays build_replays "$archive"
 rm -rf "$tried" && mkdir "$tried"
 lane &
 lane
 wait
-expect 0 gate told gate
+expect 0 gate told compare:gate
 expect 0 named $RUN "$out/compare" named
 expect 0 null $RUN "$out/compare" null
 expect 0 matters $RUN "$out/compare" matters
-expect 0 fault-list sh -c '[ "$1" -ge 95 ]' - "$(faults | wc -l)"
-for fault in $(faults); do
-    expect 1 "fault-$fault" told "$fault"
+expect 0 fault-list at_least 95 compare
+for fault in $(faults compare); do
+    expect 1 "fault-$fault" told "compare:$fault"
 done
 expect 0 report-none says fault-none-is-zero '^  VI[SR]R: none$' '^  model  answers 2 none,' '^  second answers 1 vector 00H,'
 expect 0 report-zero says fault-zero-is-none '^  VI[SR]R: 00H$' '^  model  answers 1 vector 00H,' '^  second answers 2 none,'
 expect 0 report-posted says fault-posting-keeps-highest '^  posted: [0-9A-F][0-9A-F]H' '^  descriptor byte 0[01][0-9A-F]H: '
 expect 0 report-none-posted says fault-posting-none-is-255 '^  posted: none$' '^  record byte 001H: .. | FF$'
-expect 1 null-fault-page-length-after-bounds find_fault page-length-after-bounds null
-expect 1 null-fault-highest-base-first find_fault highest-base-first null
-expect 1 null-fault-descriptor-length-first find_fault descriptor-length-first null
-expect 1 null-fault-descriptor-length-last find_fault descriptor-length-last null
-expect 1 matters-fault-hlt-is-shut find_fault hlt-is-shut matters
-expect 1 matters-fault-mov-ss-is-open find_fault mov-ss-is-open matters
+expect 1 null-fault-page-length-after-bounds find_fault compare page-length-after-bounds null
+expect 1 null-fault-highest-base-first find_fault compare highest-base-first null
+expect 1 null-fault-descriptor-length-first find_fault compare descriptor-length-first null
+expect 1 null-fault-descriptor-length-last find_fault compare descriptor-length-last null
+expect 1 matters-fault-hlt-is-shut find_fault compare hlt-is-shut matters
+expect 1 matters-fault-mov-ss-is-open find_fault compare mov-ss-is-open matters
+expect 0 replay-gate told replays:gate
+expect 0 replay-named $RUN "$out/replays" named
+expect 0 replay-null $RUN "$out/replays" null
+expect 0 replay-recorded $RUN "$out/replays" recorded
+expect 0 replay-stored stored
+expect 0 replay-fault-list at_least 52 replays
+for fault in $(faults replays); do
+    expect 1 "replay-fault-$fault" told "replays:$fault"
+done
+expect 0 report-line says replay-fault-bad-tells-last-good '^  the texts differ first in line ' '^  >  *[0-9]* at '
+expect 0 report-buffer says replay-fault-short-buffer-touched '^  byte 0 of the buffer: A5 | 31$'
+expect 1 replay-named-fault-limit-then-bad find_fault replays limit-then-bad named
+expect 1 replay-null-fault-empty-is-done find_fault replays empty-is-done null
 expect 0 build-bench build_bench "$archive"
 expect 0 bench-agree $RUN "$out/bench" --agree
+expect 0 build-replay-bench build_replay_bench "$archive"
+expect 0 replay-bench-agree $RUN "$out/replay_bench" --agree
 expect 0 build-simulator build_simulator "$archive"
 expect 0 simulator simulator
 

@@ -1,0 +1,3 @@
+pub mod On
+pub mod Going
+pub mod Printing

@@ -1,0 +1,1 @@
+-- Condition 3 of a replay. Assumes nothing.

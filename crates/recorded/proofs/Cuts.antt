@@ -1,0 +1,1 @@
+-- Of a trace cut anywhere the lines before the cut are the same. Assumes nothing.

@@ -1,0 +1,5 @@
+pub mod Steps
+pub mod Runs
+pub mod Counts
+pub mod Cuts
+pub mod Conditions

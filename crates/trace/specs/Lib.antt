@@ -1,0 +1,3 @@
+pub mod Fields
+pub mod Format
+pub mod Records
