@@ -1,15 +1,17 @@
 -- What is proved of every replay.
 use Prim.Native.Nat.{ℕ, _+_}
 use mathlib.Core.Path.{_≡_}
-use mathlib.Core.Bool.{Bool, true, false}
+use mathlib.Core.Bool.{Bool, true, false, _&&_}
 use mathlib.Core.List.{List, [], _∷_, _++_}
 use lib.Dec.{leb, eqb}
 use lib.ListN.{length, take}
 use Rattle.processor.specs.Logic.{if_then_else_}
+use Rattle.processor.specs.Controls.{virtualDelivery}
 use Rattle.processor.specs.declared.controls.Controls.{Controls}
 use Rattle.events.specs.declared.answer.Numbers.{Numbers}
 use Rattle.meaning.specs.Input.{Input, given}
 use Rattle.meaning.specs.Run.{start, after, answers}
+use Rattle.trace.specs.Format.{kindOf}
 use Rattle.trace.specs.Records.{isControls, controlsOf, eventOf}
 use Rattle.text.specs.Lines.{lineEnd}
 use Rattle.recorded.specs.Session.{begin, answersTo, sessionEnd}
@@ -54,3 +56,12 @@ pub record CutAt (n : ℕ) (t : List ℕ) (limit : ℕ) : Type 0 where
   pub records : replayed (take n t) limit ≡ within n 1 (replayed t limit)
   pub more : List ℕ
   pub same : lines 0 (answersTo begin (replayed t limit)) ≡ lines 0 (answersTo begin (replayed (take n t) limit)) ++ more
+
+-- VID on at each entry: every record of kind 1 finds, as the last of kind 0 before it, controls with virtual-interrupt delivery on. Before
+-- the first kind 0 the controls are c.
+abbrev pub deliveryOnAt : Controls → List (List ℕ) → Bool
+deliveryOnAt c [] = true
+deliveryOnAt c (b ∷ bs) =
+    if isControls b then deliveryOnAt (controlsOf b) bs
+    else if eqb (kindOf b) 1 then (virtualDelivery c && deliveryOnAt c bs)
+    else deliveryOnAt c bs
