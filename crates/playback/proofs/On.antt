@@ -5,10 +5,12 @@ use mathlib.Core.Path.{_≡_, refl, sym, ap, _∙_}
 use mathlib.Core.Bool.{Bool, true, false, not, _&&_}
 use mathlib.Core.List.{List}
 use lib.Dec.{eqb, leb}
-use lib.ListN.{length}
-use borrow.Author.Tests.{eqb-false, leb-false, ne-eqb}
+use lib.ListN.{length, take, drop, length-take, length-drop}
+use lib.Seq.{getD-take, getD-drop}
+use borrow.Author.Tests.{eqb-true, eqb-false, ne-eqb}
 use Rattle.processor.specs.Logic.{if_then_else_}
-use Rattle.trace.specs.Format.{cutShort, lengthAt, recordReadable, bodyReadable, bodyAt, nextPlace}
+use Rattle.trace.specs.Format.{cutShort, lengthAt, kindOf, kindKnown, lengthOfKind, flagsUsed, recordReadable, bodyReadable, bodyAt, nextPlace}
+use Rattle.page.specs.Page.{byteAt}
 use Rattle.trace.proofs.Has.{not-cut}
 use Rattle.text.specs.Lines.{doneLine, badLine}
 use Rattle.text.proofs.Lengths.{done-short, bad-short}
@@ -36,6 +38,16 @@ goes-on t u = by (eqb (u .left) 0) (leb (length t) (u .place)) refl refl
     by false true p q e = absurd (never e)
     by false false p q e = record { some = p; more = q; readable = e }
 
+-- it does not go on where the next record can't be read
+pub stops : (t : List ℕ) (u : Turn) → recordReadable t (u .place) ≡ false → goesOn t u ≡ false
+unfolding goesOn
+stops t u e = by (eqb (u .left) 0) (leb (length t) (u .place))
+  where
+    by : (x y : Bool) → (if x then false else (if y then false else recordReadable t (u .place))) ≡ false
+    by true y = refl
+    by false true = refl
+    by false false = e
+
 pub left-some : (t : List ℕ) (u : Turn) → goesOn t u ≡ true → 1 ≤ u .left
 left-some t u e = let h = eqb-false (u .left) 0 (goes-on t u e .some) in omega arith
 
@@ -58,6 +70,50 @@ next-inside t place e =
     let cut = whole t place e in
     record { past = simp cut (omega arith); inside = simp cut (omega (arith, not-cut t place cut)) }
 
+-- the next record begins where this one's body ends
+pub next-by-body : (t : List ℕ) (place : ℕ) → recordReadable t place ≡ true → nextPlace t place ≡ place + 2 + length (bodyAt t place)
+unfolding nextPlace bodyAt
+next-by-body t place e =
+    let cut = whole t place e in
+    simp (cut, length-take, length-drop) (omega (arith, not-cut t place cut))
+
+-- its length is its kind's
+body-length : (t : List ℕ) (place : ℕ) → recordReadable t place ≡ true → length (bodyAt t place) ≡ lengthAt t place
+unfolding nextPlace
+body-length t place e = omega (arith, simp (whole t place e) at (next-by-body t place e))
+
+kind-length : (t : List ℕ) (place : ℕ) → recordReadable t place ≡ true → length (bodyAt t place) ≡ lengthOfKind (kindOf (bodyAt t place))
+unfolding recordReadable bodyReadable
+kind-length t place e = eqb-true _ _ (by (not (cutShort t place)) (kindKnown (kindOf (bodyAt t place))) (eqb (length (bodyAt t place)) (lengthOfKind (kindOf (bodyAt t place)))) (flagsUsed (bodyAt t place)) e)
+  where
+    by : (w x y z : Bool) → (w && (x && y && z)) ≡ true → y ≡ true
+    by false x y z q = absurd (never q)
+    by true false y z q = absurd (never q)
+    by true true false z q = absurd (never q)
+    by true true true z q = refl
+
+-- and its kind stands after its length
+kind-stands : (t : List ℕ) (place : ℕ) → recordReadable t place ≡ true → kindOf (bodyAt t place) ≡ byteAt t (place + 2)
+unfolding bodyAt lengthOfKind
+kind-stands t place e = by (lengthAt t place) refl
+  where
+    body : bodyAt t place ≡ take (lengthAt t place) (drop (place + 2) t)
+    body = simp (whole t place e)
+
+    by : (n : ℕ) → lengthAt t place ≡ n → kindOf (bodyAt t place) ≡ byteAt t (place + 2)
+    by zero q = absurd (omega (arith, ap length (body ∙ ap (λ (m : ℕ). take m (drop (place + 2) t)) q), kind-length t place e, ap (λ (b : List ℕ). lengthOfKind (kindOf b)) (body ∙ ap (λ (m : ℕ). take m (drop (place + 2) t)) q)))
+    by (suc n) q =
+        let some : 0 < lengthAt t place = omega arith in
+        let same : place + 2 + 0 ≡ place + 2 = omega arith in
+        ap kindOf body ∙ (getD-take (lengthAt t place) (drop (place + 2) t) 0 0 some ∙ (getD-drop (place + 2) t 0 0 ∙ ap (λ (m : ℕ). byteAt t m) same))
+
+pub unlike-kind : (t : List ℕ) (place : ℕ) → eqb (lengthAt t place) (lengthOfKind (byteAt t (place + 2))) ≡ false → recordReadable t place ≡ false
+unlike-kind t place n = by (recordReadable t place) refl
+  where
+    by : (x : Bool) → recordReadable t place ≡ x → x ≡ false
+    by false e = refl
+    by true e = absurd (eqb-false _ _ n (sym (body-length t place e) ∙ (kind-length t place e ∙ ap lengthOfKind (kind-stands t place e))))
+
 -- the three ways in which it is over
 data Over (t : List ℕ) (u : Turn) : Type 0 where
   limit : u .left ≡ 0 → Over t u
@@ -74,7 +130,7 @@ over t u = by (u .left) refl (leb (length t) (u .place)) refl
     by (suc k) p false q e = bad k p q (simp (ne-eqb (u .left) 0 (λ z. omega arith), q) at e)
 
 -- nothing is left but the last line
-pub last-left : (t : List ℕ) (u : Turn) (s : Session) → goesOn t u ≡ false → textFrom (u .left) t (u .place) (u .count) s ≡ lastOf t u
+pub last-left : (t : List ℕ) (u : Turn) (s : Session) → goesOn t u ≡ false → textFrom (u .left) t (u .place) (u .count) s ≡ lastOf t (u .left) (u .place) (u .count)
 unfolding lastOf
 last-left t u s e = by (over t u e)
   where
@@ -93,7 +149,7 @@ none-left t u e = by (over t u e)
     by (bad k p q r) = simp p (counts-bad k t (u .place) q r)
 
 -- the last line is short
-pub last-short : (t : List ℕ) (u : Turn) → u .count ≤ 61440 → length (lastOf t u) ≤ 11
+pub last-short : (t : List ℕ) (u : Turn) → u .count ≤ 61440 → length (lastOf t (u .left) (u .place) (u .count)) ≤ 11
 unfolding lastOf
 last-short t u h = by (eqb (u .left) 0) (leb (length t) (u .place))
   where

@@ -30,11 +30,11 @@ no-trace t limit o end o′ e w = record {
   room = omega (arith, w .place, bad-short 0 (omega arith));
 }
 
-pub whole-trace : (t : List ℕ) (limit : ℕ) (o p : List ℕ) (u : Turn) (o₁ : List ℕ) (end : ℕ) (o₂ : List ℕ) → isTrace t ≡ true → length t ≤ 61440 → Ended t limit zeroPage o u p o₁ → Writes o₁ (u .at) (lastOf t u) end o₂ → Prints t limit o (record { end = end; count = u .count }) o₂
+pub whole-trace : (t : List ℕ) (limit : ℕ) (o p : List ℕ) (u : Turn) (o₁ : List ℕ) (end : ℕ) (o₂ : List ℕ) → isTrace t ≡ true → length t ≤ 61440 → Ended t limit zeroPage o u p o₁ → Writes o₁ (u .at) (lastOf t (u .left) (u .place) (u .count)) end o₂ → Prints t limit o (record { end = end; count = u .count }) o₂
 unfolding replayText replayed
 whole-trace t limit o p u o₁ end o₂ e h d w =
     let g = d .going in
-    let last : textLeft t p u ≡ lastOf t u = last-left t u _ (d .over) in
+    let last : textLeft t p u ≡ lastOf t (u .left) (u .place) (u .count) = last-left t u _ (d .over) in
     record {
       text = simp e record {
         place = omega (arith, w .place, g .end, ap length last);

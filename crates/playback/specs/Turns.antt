@@ -21,12 +21,12 @@ goesOn t u =
     else if leb (length t) (u .place) then false
     else recordReadable t (u .place)
 
--- the last line, where it does not go on
-unfoldable pub lastOf : List ℕ → Turn → List ℕ
-lastOf t u =
-    if eqb (u .left) 0 then doneLine (u .count)
-    else if leb (length t) (u .place) then doneLine (u .count)
-    else badLine (u .count + 1)
+-- the last line, where it does not go on, by the number of records left, the place and the count
+unfoldable pub lastOf : List ℕ → ℕ → ℕ → ℕ → List ℕ
+lastOf t left place count =
+    if eqb left 0 then doneLine count
+    else if leb (length t) place then doneLine count
+    else badLine (count + 1)
 
 -- before the first record
 pub record Starts (limit : ℕ) (u : Turn) : Type 0 where

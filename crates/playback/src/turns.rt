@@ -10,7 +10,6 @@ use text::lines::bad_line;
 use text::lines::done_line;
 use text::lines::line;
 use trace::bodies::body_at;
-use trace::bodies::next_place;
 use trace::kinds::record_readable;
 
 // What is held, how many records may still be read, the place of the next, how many lines are written, and where they end.
@@ -53,30 +52,30 @@ pub fn next_turn(page: &mut [u8], trace: &[u8], out: &mut [u8], turn: Turn) -> T
     requires { ⌜ Ready (now trace) turn ⌝ }
     ensures { λ r. ⌜ Turned (now (trace .entry)) (now (page .entry)) (now (out .entry)) turn r (now (page .exit)) (now (out .exit)) ⌝ }
 {
-    let place = turn.place;
-    let told = carried_out(page, turn.state, body_at(trace, place));
+    let body = body_at(trace, turn.place);
+    let told = carried_out(page, turn.state, body);
     let state = told.state;
     let count = turn.count + 1;
     let end = line(out, turn.at, count, told.numbers);
     Turn {
         state,
         left: turn.left - 1,
-        place: next_place(trace, place),
+        place: turn.place + 2 + body.len(),
         count,
         at: end as u32,
     }
 }
 
 // The last line: "done", or "bad" where a record is left that can't be read.
-pub fn last_line(trace: &[u8], out: &mut [u8], turn: Turn) -> u64
-    requires { ⌜ turn .count < 100000 ⌝ }
-    ensures { λ r. ⌜ Writes (now (out .entry)) (turn .at) (lastOf (now (trace .entry)) turn) r (now (out .exit)) ⌝ }
+pub fn last_line(trace: &[u8], out: &mut [u8], at: u32, left: u32, place: usize, count: u32) -> u64
+    requires { ⌜ count < 100000 ⌝ }
+    ensures { λ r. ⌜ Writes (now (out .entry)) at (lastOf (now (trace .entry)) left place count) r (now (out .exit)) ⌝ }
 {
-    if turn.left == 0 {
-        return done_line(out, turn.at, turn.count);
+    if left == 0 {
+        return done_line(out, at, count);
     }
-    if trace.len() <= turn.place {
-        return done_line(out, turn.at, turn.count);
+    if trace.len() <= place {
+        return done_line(out, at, count);
     }
-    bad_line(out, turn.at, turn.count + 1)
+    bad_line(out, at, count + 1)
 }

@@ -1,15 +1,23 @@
 // One record of a trace, carried out on a lent page.
-ghost use Rattle.session.specs.Told.{Begins, ControlsTold, Tells, sessionOf};
+ghost use Rattle.processor.specs.Controls.{withControls};
+ghost use Rattle.session.specs.Told.{Begins, ControlsTold, EntryTold, Tells, sessionOf};
+ghost use Rattle.trace.specs.Format.{kindOf};
+ghost use lib.Dec.{eqb};
+ghost use mathlib.Core.Bool.{false};
+ghost use mathlib.Core.Path.{_≡_};
+use crate::kinds::event_outcome;
 use events::answer::Numbers;
 use events::answer::numbered;
 use events::answer::numbers_of;
 use model::fresh_record;
-use model::step;
+use model::kinds::entry;
+use page::bytes::byte_at;
 use processor::controls::Controls;
 use processor::controls::Record;
+use trace::kinds::KIND;
 use trace::records::controls_of;
-use trace::records::event_of;
-use trace::records::is_controls;
+
+mod kinds;
 
 // What is held beside the page: the processor record, and the controls for later entries.
 pub struct State {
@@ -23,12 +31,41 @@ pub struct Told {
     pub state: State,
 }
 
+// The same controls, field by field: a copy carries the bytes between fields along.
+fn by_fields(controls: Controls) -> Controls
+    ensures { λ r. ⌜ r ≡ controls ⌝ }
+{
+    Controls {
+        flags: controls.flags,
+        threshold: controls.threshold,
+        notification: controls.notification,
+        eoi_exit_0: controls.eoi_exit_0,
+        eoi_exit_1: controls.eoi_exit_1,
+        eoi_exit_2: controls.eoi_exit_2,
+        eoi_exit_3: controls.eoi_exit_3,
+    }
+}
+
+// A record with controls, field by field too.
+fn with_controls(record: Record, controls: Controls) -> Record
+    ensures { λ r. ⌜ r ≡ withControls «record» controls ⌝ }
+{
+    Record {
+        guest: record.guest,
+        rvi: record.rvi,
+        svi: record.svi,
+        recognised: record.recognised,
+        controls: by_fields(controls),
+    }
+}
+
 // A fresh record, and all controls zero.
 pub fn begin() -> State
     ensures { λ r. ⌜ Begins r ⌝ }
 {
-    let record = fresh_record();
-    let controls = record.controls;
+    let fresh = fresh_record();
+    let record = with_controls(fresh, fresh.controls);
+    let controls = by_fields(fresh.controls);
     State { record, controls }
 }
 
@@ -44,19 +81,46 @@ fn controls_told(state: State, body: &[u8]) -> Told
     }
 }
 
-// Carries out one record that can be read.
-pub fn carried_out(page: &mut [u8], state: State, body: &[u8]) -> Told
-    ensures { λ r. ⌜ Tells (sessionOf (now (page .entry)) state) (now (body .entry)) r (now (page .exit)) ⌝ }
+// Kind 1: an entry with the controls for later entries.
+fn entry_told(page: &mut [u8], state: State) -> Told
+    ensures { λ r. ⌜ EntryTold (now (page .entry)) state r (now (page .exit)) ⌝ }
 {
-    if is_controls(body) {
-        return controls_told(state, body);
-    }
-    let controls = state.controls;
-    let outcome = step(page, state.record, event_of(controls, body));
+    let controls = by_fields(state.controls);
+    let outcome = entry(page, state.record, controls);
     let answer = outcome.answer;
-    let record = outcome.record;
+    let after = outcome.record;
+    let record = with_controls(after, after.controls);
     Told {
         numbers: numbers_of(answer),
         state: State { record, controls },
     }
+}
+
+// Every other kind: its event, which leaves the controls in force.
+fn event_told(page: &mut [u8], state: State, body: &[u8]) -> Told
+    ensures { λ r. ⌜ (eqb (kindOf (now (body .entry))) 0 ≡ false → eqb (kindOf (now (body .entry))) 1 ≡ false → Tells (sessionOf (now (page .entry)) state) (now (body .entry)) r (now (page .exit))) ⌝ }
+{
+    let held = state.record;
+    let outcome = event_outcome(page, held, body);
+    let answer = outcome.answer;
+    let record = with_controls(outcome.record, held.controls);
+    let controls = by_fields(state.controls);
+    Told {
+        numbers: numbers_of(answer),
+        state: State { record, controls },
+    }
+}
+
+// Carries out one record that can be read.
+pub fn carried_out(page: &mut [u8], state: State, body: &[u8]) -> Told
+    ensures { λ r. ⌜ Tells (sessionOf (now (page .entry)) state) (now (body .entry)) r (now (page .exit)) ⌝ }
+{
+    let kind = byte_at(body, KIND);
+    if kind == 0 {
+        return controls_told(state, body);
+    }
+    if kind == 1 {
+        return entry_told(page, state);
+    }
+    event_told(page, state, body)
 }

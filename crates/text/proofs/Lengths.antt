@@ -9,7 +9,7 @@ use lib.ListN.{length, length-append}
 use borrow.Author.Tests.{ltb-true, ltb-false}
 use Rattle.processor.specs.Logic.{if_then_else_}
 use Rattle.events.specs.declared.answer.Numbers.{Numbers}
-use Rattle.text.specs.Decimal.{digit, digits, decimal}
+use Rattle.text.specs.Decimal.{digit, digits, decimal, lastDigits}
 use Rattle.text.specs.Lines.{field, line, doneLine, badLine}
 
 -- a number below a power of ten has no more digits than its exponent
@@ -32,6 +32,11 @@ at-most (suc k) n = by (ltb n 10) (at-most k (n / 10))
     by : (x : Bool) → length (digits k (n / 10)) ≤ k → length (if x then (digit n ∷ []) else (digits k (n / 10) ++ (digit n ∷ []))) ≤ suc k
     by true tenth = omega arith
     by false tenth = simp length-append (omega arith)
+
+pub last-length : (k n : ℕ) → length (lastDigits k n) ≡ k
+unfolding lastDigits
+last-length zero n = refl
+last-length (suc k) n = simp length-append (omega (arith, last-length k (n / 10)))
 
 pub field-at-most : (n after : ℕ) → length (field n after) ≤ 21
 field-at-most n after = simp length-append (omega (arith, at-most 20 n))

@@ -17,6 +17,11 @@ digits (suc k) n = if ltb n 10 then (digit n ∷ []) else (digits k (n / 10) ++ 
 abbrev pub decimal : ℕ → List ℕ
 decimal n = digits 20 n
 
+-- the last k digits of a number
+unfoldable pub lastDigits : ℕ → ℕ → List ℕ
+lastDigits zero n = []
+lastDigits (suc k) n = lastDigits k (n / 10) ++ (digit n ∷ [])
+
 -- the number that characters stand for, after those that stand for n: what a reader of a line gets
 abbrev pub valueFrom : ℕ → List ℕ → ℕ
 valueFrom n [] = n

@@ -2,6 +2,7 @@
 ghost use Rattle.text.specs.Lines.{line as lineOf, doneLine, badLine};
 ghost use Rattle.text.specs.Written.{Writes};
 use crate::decimal::field;
+use crate::decimal::line_field;
 use crate::decimal::put;
 use events::answer::Numbers;
 
@@ -13,10 +14,10 @@ const LINE_END: u8 = 0x0a;
 pub fn line(out: &mut [u8], at: u32, number: u32, numbers: Numbers) -> u64
     ensures { λ r. ⌜ Writes (now (out .entry)) at (lineOf number numbers) r (now (out .exit)) ⌝ }
 {
-    let answer = field(out, at as u64, number as u64, BLANK);
-    let first = field(out, answer, numbers.answer as u64, BLANK);
-    let second = field(out, first, numbers.first, BLANK);
-    field(out, second, numbers.second, LINE_END)
+    let answer = line_field(out, at as u64, number as u64, BLANK);
+    let first = line_field(out, answer, numbers.answer as u64, BLANK);
+    let second = line_field(out, first, numbers.first, BLANK);
+    line_field(out, second, numbers.second, LINE_END)
 }
 
 // "done" and the count.

@@ -56,12 +56,21 @@ pub fn body_readable(body: &[u8]) -> bool
     ensures { λ r. ⌜ r ≡ bodyReadable (now (body .entry)) ⌝ }
 {
     let kind = byte_at(body, KIND);
-    (kind < KINDS) & (body.len() == length_of_kind(kind)) & flags_used(body)
+    if KINDS <= kind {
+        return false;
+    }
+    if body.len() != length_of_kind(kind) {
+        return false;
+    }
+    flags_used(body)
 }
 
 // The record is not cut short, and its body can be read.
 pub fn record_readable(trace: &[u8], place: usize) -> bool
     ensures { λ r. ⌜ r ≡ recordReadable (now (trace .entry)) place ⌝ }
 {
-    !cut_short(trace, place) & body_readable(body_at(trace, place))
+    if cut_short(trace, place) {
+        return false;
+    }
+    body_readable(body_at(trace, place))
 }

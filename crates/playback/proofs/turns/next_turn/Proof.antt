@@ -1,41 +1,55 @@
 -- `playback::turns::next_turn` meets its contract: the record is carried out, and its line is short. Assumes nothing.
 use borrow.Author.Needs.{needs}
 use native.Mathlib.Omega.{arith}
-use Prim.Native.Nat.{_+_, _≤_}
-use mathlib.Core.Path.{refl, ap, _∙_}
+use Prim.Native.Nat.{_+_}
+use mathlib.Core.Path.{refl, sym, ap, _∙_}
 use lib.ListN.{length}
 use Rattle.text.proofs.Lengths.{line-short}
-use Rattle.playback.proofs.On.{left-some}
+use Rattle.playback.proofs.On.{goes-on, left-some, next-inside, next-by-body}
 use Rattle.playback.proofs.turns.next_turn.Statement.{statement}
 use Rattle.playback.proofs.turns.next_turn.Tie as tie
 
-add-count : tie.Need-add-count
-add-count c = omega (arith, c .before .before .before .before .before .before .before .before .before .before .pre .count)
+sub-t14 : tie.Need-sub-t14
+sub-t14 c = let start = c .before .before .before .before .before .before .before .before .before .before .before .before .before .before .before in left-some (start .args .trace .now) (start .args .turn) (start .pre .on)
 
-sub-t15 : tie.Need-sub-t15
-sub-t15 c =
-    let start = c .before .before .before .before .before .before .before .before .before .before .before .before .before .before .before in
-    left-some (start .args .trace .now) (start .args .turn) (start .pre .on)
+add-t15 : tie.Need-add-t15
+add-t15 c =
+    let start = c .before .before .before .before .before .before .before .before .before .before .before .before .before .before .before .before in
+    let t = start .args .trace .now in
+    let u = start .args .turn in
+    let next = next-inside t (u .place) (goes-on t u (start .pre .on) .readable) in
+    omega (arith, next .past, next .inside, start .good .1 .0 .0)
 
-cast-t17 : tie.Need-cast-t17
-cast-t17 c =
+add-t17 : tie.Need-add-t17
+add-t17 c =
+    let start = c .before .before .before .before .before .before .before .before .before .before .before .before .before .before .before .before in
+    let t = start .args .trace .now in
+    let u = start .args .turn in
+    let readable = goes-on t u (start .pre .on) .readable in
+    omega (arith, next-by-body t (u .place) readable, next-inside t (u .place) readable .inside, ap length (c .before .before .before .before .before .before .before .before .before .before .before .before .body-at .ensures), start .good .1 .0 .0)
+
+cast-t18 : tie.Need-cast-t18
+cast-t18 c =
     let told = c .before .before .before .before .before .before .before .before .before .before in
-    let start = told .before .before .before .before .before .before in
+    let start = c .before .before .before .before .before .before .before .before .before .before .before .before .before .before .before .before in
     let count = start .args .turn .count + 1 in
     omega (arith, c .before .before .before .before .line .ensures .place, line-short count (told .carried-out .result .numbers) (omega (arith, start .pre .count)) (told .carried-out .ensures .small), start .pre .count, start .pre .at)
 
 returns : tie.Need-returns
 returns c =
     let told = c .before .before .before .before .before .before .before .before .before .before in
-    let start = told .before .before .before .before .before .before in
-    let tells = simp (told .before .body-at .ensures) at (told .carried-out .ensures) in
+    let start = c .before .before .before .before .before .before .before .before .before .before .before .before .before .before .before .before in
+    let t = start .args .trace .now in
+    let u = start .args .turn in
+    let body = told .before .before .body-at .ensures in
+    let tells = simp body at (told .carried-out .ensures) in
     let written = c .before .before .before .before .line .ensures in
-    let left = left-some (start .args .trace .now) (start .args .turn) (start .pre .on) in
-    let short = line-short (start .args .turn .count + 1) (told .carried-out .result .numbers) (omega (arith, start .pre .count)) (told .carried-out .ensures .small) in
+    let left = left-some t u (start .pre .on) in
+    let short = line-short (u .count + 1) (told .carried-out .result .numbers) (omega (arith, start .pre .count)) (told .carried-out .ensures .small) in
     record {
       session = tells .session;
       left = omega arith;
-      place = c .next-place .ensures;
+      place = simp body (sym (next-by-body t (u .place) (goes-on t u (start .pre .on) .readable)));
       count = refl;
       text = simp (tells .answer) at written;
       short = omega (arith, written .place, short);
@@ -47,11 +61,12 @@ next-turn-spec =
     (tie.spec
     (λ c κs. tt)
     (λ c κs. tt)
-    add-count
+    (λ c. search needs)
     (λ c κs. tt)
-    sub-t15
-    (λ c κs. tt)
-    cast-t17
+    sub-t14
+    add-t15
+    add-t17
+    cast-t18
     (λ c. search needs)
     (λ c. search needs)
     returns)

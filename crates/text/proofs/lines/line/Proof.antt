@@ -7,26 +7,26 @@ use Rattle.text.proofs.Writing.{writes-append}
 use Rattle.text.proofs.lines.line.Statement.{statement}
 use Rattle.text.proofs.lines.line.Tie as tie
 
-field-requires-2 : tie.Need-field-requires-2
-field-requires-2 c κs =
+line-field-requires-2 : tie.Need-line-field-requires-2
+line-field-requires-2 c κs =
     let at = c .before .before .before .before in
     let start = at .before .before .before in
-    omega (arith, at .field .ensures .place, field-at-most (start .args .number) blank, start .fits .at .fits)
+    omega (arith, at .line-field .ensures .place, field-at-most (start .args .number) blank, start .fits .at .fits)
 
-field-requires-3 : tie.Need-field-requires-3
-field-requires-3 c κs =
+line-field-requires-3 : tie.Need-line-field-requires-3
+line-field-requires-3 c κs =
     let at₂ = c .before .before .before in
     let at = at₂ .before .before .before .before .before in
     let start = at .before .before .before in
-    omega (arith, at₂ .field2 .ensures .place, at .field .ensures .place, field-at-most (start .args .number) blank, field-at-most (start .args .numbers .answer) blank, start .fits .at .fits)
+    omega (arith, at₂ .line-field2 .ensures .place, at .line-field .ensures .place, field-at-most (start .args .number) blank, field-at-most (start .args .numbers .answer) blank, start .fits .at .fits)
 
-field-requires-4 : tie.Need-field-requires-4
-field-requires-4 c κs =
+line-field-requires-4 : tie.Need-line-field-requires-4
+line-field-requires-4 c κs =
     let at₃ = c .before .before .before in
     let at₂ = at₃ .before .before .before .before in
     let at = at₂ .before .before .before .before .before in
     let start = at .before .before .before in
-    omega (arith, at₃ .field3 .ensures .place, at₂ .field2 .ensures .place, at .field .ensures .place, field-at-most (start .args .number) blank, field-at-most (start .args .numbers .answer) blank, field-at-most (start .args .numbers .first) blank, start .fits .at .fits)
+    omega (arith, at₃ .line-field3 .ensures .place, at₂ .line-field2 .ensures .place, at .line-field .ensures .place, field-at-most (start .args .number) blank, field-at-most (start .args .numbers .answer) blank, field-at-most (start .args .numbers .first) blank, start .fits .at .fits)
 
 returns : tie.Need-returns
 unfolding line
@@ -35,9 +35,9 @@ returns c =
     let at₃ = at₄ .before .before .before .before in
     let at₂ = at₃ .before .before .before .before in
     let at = at₂ .before .before .before .before .before in
-    writes-append (at .field .ensures) (writes-append (at₂ .field2 .ensures) (writes-append (at₃ .field3 .ensures) (at₄ .field4 .ensures)))
+    writes-append (at .line-field .ensures) (writes-append (at₂ .line-field2 .ensures) (writes-append (at₃ .line-field3 .ensures) (at₄ .line-field4 .ensures)))
 
 pub line-spec : {M : Type 1} → statement M
 line-spec =
     tie.close
-    (tie.spec (λ c κs. search needs) (λ c. search needs) field-requires-2 field-requires-3 field-requires-4 (λ c. search needs) returns)
+    (tie.spec (λ c κs. search needs) (λ c. search needs) line-field-requires-2 line-field-requires-3 line-field-requires-4 (λ c. search needs) returns)
