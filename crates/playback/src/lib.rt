@@ -16,12 +16,12 @@ pub struct Replayed {
 }
 
 // The longest line, and the longest last line.
-pub const LONGEST_LINE: u64 = 50;
+const LONGEST_LINE: u64 = 50;
 
-pub const LONGEST_LAST_LINE: u64 = 11;
+const LONGEST_LAST_LINE: u64 = 11;
 
 // A buffer of so many bytes is long enough for every trace: a line for each record, and the last line.
-pub fn room_for(limit: u32) -> u64
+fn room_for(limit: u32) -> u64
     ensures { λ r. ⌜ r ≡ roomFor limit ⌝ }
 {
     LONGEST_LINE * limit as u64 + LONGEST_LAST_LINE

@@ -1,19 +1,11 @@
 // What a body of kind 0 says: the controls for later entries.
 ghost use mathlib.Core.Path.{_≡_};
-ghost use Rattle.trace.specs.Records.{isControls, controlsOf};
+ghost use Rattle.trace.specs.Records.{controlsOf};
 use crate::fields::eight_at;
 use crate::fields::four_at;
 use crate::fields::two_at;
 use crate::kinds::CONTROL_FLAGS;
-use crate::kinds::KIND;
-use page::bytes::byte_at;
 use processor::controls::Controls;
-
-pub fn is_controls(body: &[u8]) -> bool
-    ensures { λ r. ⌜ r ≡ isControls (now (body .entry)) ⌝ }
-{
-    byte_at(body, KIND) == 0
-}
 
 pub fn controls_of(body: &[u8]) -> Controls
     ensures { λ r. ⌜ r ≡ controlsOf (now (body .entry)) ⌝ }
