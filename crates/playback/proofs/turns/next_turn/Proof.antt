@@ -10,7 +10,10 @@ use Rattle.playback.proofs.turns.next_turn.Statement.{statement}
 use Rattle.playback.proofs.turns.next_turn.Tie as tie
 
 sub-t14 : tie.Need-sub-t14
-sub-t14 c = let start = c .before .before .before .before .before .before .before .before .before .before .before .before .before .before .before in left-some (start .args .trace .now) (start .args .turn) (start .pre .on)
+sub-t14 c =
+    let start = c .before .before .before .before .before .before .before .before .before .before .before .before .before .before .before in
+    let some = left-some (start .args .trace .now) (start .args .turn) (start .pre .on) in
+    omega arith
 
 add-t15 : tie.Need-add-t15
 add-t15 c =

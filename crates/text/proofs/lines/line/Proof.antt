@@ -26,7 +26,7 @@ line-field-requires-4 c κs =
     let at₂ = at₃ .before .before .before .before in
     let at = at₂ .before .before .before .before .before in
     let start = at .before .before .before in
-    omega (arith, at₃ .line-field3 .ensures .place, at₂ .line-field2 .ensures .place, at .line-field .ensures .place, field-at-most (start .args .number) blank, field-at-most (start .args .numbers .answer) blank, field-at-most (start .args .numbers .first) blank, start .fits .at .fits)
+    omega (arith, at₃ .line-field3 .ensures .place, at₂ .line-field2 .ensures .place, at .line-field .ensures .place, field-at-most (start .args .number) blank, field-at-most (start .args .numbers .answer) blank, field-at-most (start .args .numbers .first) blank, field-at-most (start .args .numbers .second) blank, start .fits .at .fits)
 
 returns : tie.Need-returns
 unfolding line
