@@ -61,12 +61,12 @@ stored_is_made() {
 
 # replay TRACE: what it prints, byte for byte
 replay() {
-    $RUN "$program" <"$1" >"$work/printed" && diff "${1%.trace}.expected" "$work/printed"
+    $RUN_LINKED "$program" <"$1" >"$work/printed" && diff "${1%.trace}.expected" "$work/printed"
 }
 
 # The same trace from a pipe, its first five bytes first.
 replay_in_pieces() {
-    { dd bs=1 count=5 2>/dev/null && sleep 1 && cat; } <"$1" | $RUN "$program" >"$work/printed" &&
+    { dd bs=1 count=5 2>/dev/null && sleep 1 && cat; } <"$1" | $RUN_LINKED "$program" >"$work/printed" &&
         diff "${1%.trace}.expected" "$work/printed"
 }
 
