@@ -1,1 +1,2 @@
 pub mod Has
+pub mod RecordRows

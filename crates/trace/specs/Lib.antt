@@ -1,3 +1,4 @@
 pub mod Fields
 pub mod Format
 pub mod Records
+pub mod RecordRows
