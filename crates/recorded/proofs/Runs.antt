@@ -4,7 +4,6 @@ use mathlib.Core.Path.{_≡_, refl, ap}
 use mathlib.Core.Bool.{Bool, true, false}
 use mathlib.Core.List.{List, [], _∷_}
 use Rattle.processor.specs.Logic.{if_then_else_}
-use Rattle.processor.specs.Controls.{noControls}
 use Rattle.events.specs.declared.answer.Numbers.{Numbers}
 use Rattle.meaning.specs.Run.{Held, after, answers, stepOf, heldAfter}
 use Rattle.trace.specs.Records.{isControls, controlsOf}
@@ -29,5 +28,5 @@ ended s (b ∷ bs) = by (isControls b) refl (ended (sessionAfter s b) bs)
     by true e ih = simp e (simp e at ih)
     by false e ih = simp e (simp e at ih)
 
-pub replay-is-run : (bs : List (List ℕ)) → IsRun noControls bs
+pub replay-is-run : (bs : List (List ℕ)) → IsRun bs
 replay-is-run bs = record { answered = answered begin bs; held = ended begin bs }

@@ -6,7 +6,7 @@ use mathlib.Core.List.{List, [], _∷_, _++_}
 use lib.Dec.{leb, eqb}
 use lib.ListN.{length, take}
 use Rattle.processor.specs.Logic.{if_then_else_}
-use Rattle.processor.specs.Controls.{virtualDelivery}
+use Rattle.processor.specs.Controls.{noControls, virtualDelivery}
 use Rattle.processor.specs.declared.controls.Controls.{Controls}
 use Rattle.events.specs.declared.answer.Numbers.{Numbers}
 use Rattle.meaning.specs.Input.{Input, given}
@@ -34,9 +34,9 @@ lineEnds [] = 0
 lineEnds (c ∷ cs) = if eqb c lineEnd then (1 + lineEnds cs) else lineEnds cs
 
 -- The answers printed are those of the run over the events read, from a zero page and a fresh record, and page and record are the run's.
-pub record IsRun (c : Controls) (bs : List (List ℕ)) : Type 0 where
-  pub answered : eventAnswers bs (answersTo begin bs) ≡ answers start (inputsRead c bs)
-  pub held : sessionEnd begin bs .held ≡ after start (inputsRead c bs)
+pub record IsRun (bs : List (List ℕ)) : Type 0 where
+  pub answered : eventAnswers bs (answersTo begin bs) ≡ answers start (inputsRead noControls bs)
+  pub held : sessionEnd begin bs .held ≡ after start (inputsRead noControls bs)
 
 -- The text is a line for each record processed and a last line. The count reported is that of the records whose lines are printed: the
 -- text has as many line ends before its last.
