@@ -361,6 +361,7 @@ uint32_t gg_highest(const uint8_t *page, size_t page_len, uint32_t base, uint64_
  * one the text is measured first.
  * A null trace or out with length 0 is as any empty one; with another length, each points to that many bytes, at
  * any address. written is never null. Nothing overlaps.
+ * It stands in an archive of its own, libcapi_replay.a, and calls the C library's memset.
  */
 uint32_t gg_replay(const uint8_t *trace, size_t trace_len, uint32_t limit, uint8_t *out, size_t out_len,
                    uint64_t *written);

@@ -16,9 +16,20 @@ need_rt() {
 # need_archive ARCHIVE: stops where the archive is missing, since every program links it.
 need_archive() {
     [ -f "$1" ] && return
-    echo "no static library at $1: 'rt staticlib capi' in $root makes target/staticlib/libcapi.a." >&2
+    echo "no static library at $1: in $root 'rt staticlib capi' makes target/staticlib/libcapi.a," >&2
+    echo "and 'rt staticlib capi_replay' makes libcapi_replay.a beside it." >&2
     need_rt
     return 1
+}
+
+# replay_archive ARCHIVE: the archive of gg_replay, which lies beside that of the other functions
+replay_archive() {
+    printf '%s/libcapi_replay.a' "$(dirname "$1")"
+}
+
+# need_archives ARCHIVE: stops where it or the one beside it is missing
+need_archives() {
+    need_archive "$1" && need_archive "$(replay_archive "$1")"
 }
 
 # archive_is_old ARCHIVE: whether it is missing or older than a source that the library is made from
@@ -58,9 +69,9 @@ trace_sources() {
 
 # build_replays ARCHIVE
 build_replays() {
-    need_archive "$1" &&
+    need_archives "$1" &&
         $CC $flags $(sources oracle bounds open edge faults show replay attempt traces listing replay_tally \
-            replay_named recorded replays) $(trace_sources) "$1" -o "$out/replays"
+            replay_named recorded replays) $(trace_sources) "$1" "$(replay_archive "$1")" -o "$out/replays"
 }
 
 # The second program's rules, boundary and replay once more, searching by words, each function under its own name.
@@ -86,9 +97,10 @@ build_bench() {
 
 # build_replay_bench ARCHIVE: the replays, in the same manner
 build_replay_bench() {
-    need_archive "$1" && build_words &&
+    need_archives "$1" && build_words &&
         $CC $flags -DWITHOUT_FAULTS $(sources oracle bounds open edge replay replay_bench) \
-            $(trace_sources) "$out/oracle_words.o" "$out/replay_words.o" "$1" -o "$out/replay_bench"
+            $(trace_sources) "$out/oracle_words.o" "$out/replay_words.o" "$1" "$(replay_archive "$1")" \
+            -o "$out/replay_bench"
 }
 
 # build_simulator ARCHIVE

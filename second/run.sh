@@ -9,7 +9,7 @@ archive=${1:-$root/target/staticlib/libcapi.a}
 . "$root/second/build.sh"
 
 # Without the library there is nothing to check.
-if ! need_archive "$archive"; then
+if ! need_archives "$archive"; then
     echo "0 passed, 1 failed"
     exit 1
 fi

@@ -28,7 +28,8 @@ expect() {
 }
 
 build_record() {
-    need_archive "$archive" && $CC $flags "$root/examples/sessions/record.c" "$archive" -o "$work/record"
+    need_archives "$archive" &&
+        $CC $flags "$root/examples/sessions/record.c" "$archive" "$(replay_archive "$archive")" -o "$work/record"
 }
 
 # The program compares each session with its replay too, and ends with 1 where they differ.

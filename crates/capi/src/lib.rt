@@ -3,11 +3,9 @@ ghost use mathlib.Core.List.{List};
 ghost use Prim.Native.Nat.{ℕ};
 ghost use Rattle.calls.specs.Calls.{Handed, FreshReplies, ggHighest, ggFresh};
 ghost use Rattle.replies.specs.Replies.{Replies, RepliesLent, ggStep, ggExternalInterrupt, ggLeave};
-ghost use Rattle.playback.specs.Replays.{GgReplays};
 use calls::fresh::fresh_bytes;
 use calls::hand::hand_over;
 use calls::highest::highest_numbers;
-use playback::replay;
 use replies::external_bytes;
 use replies::leave_bytes;
 use replies::step_bytes;
@@ -68,14 +66,4 @@ pub extern "C" fn gg_fresh(record: &mut [u8]) -> u32
     ensures { λ r. ⌜ FreshReplies (ggFresh (now («record» .entry))) r (now («record» .exit)) ⌝ }
 {
     fresh_bytes(record)
-}
-
-// The replay of a trace into a buffer: whether the text fits comes back, the number of bytes written goes to written.
-#[no_mangle]
-pub extern "C" fn gg_replay(trace: &[u8], limit: u32, out: &mut [u8], written: &mut u64) -> u32
-    ensures { λ r. ⌜ GgReplays (now (trace .entry)) limit (now (out .entry)) r (now (written .exit)) (now (out .exit)) ⌝ }
-{
-    let text = replay(trace, limit, out);
-    *written = text.written;
-    text.fits as u32
 }

@@ -1,4 +1,4 @@
--- `capi::gg_replay` meets its contract: what the replay says is handed over. Assumes nothing.
+-- `capi_replay::gg_replay` meets its contract: what the replay says is handed over. Assumes nothing.
 use borrow.Author.Needs.{needs}
 use Prim.Native.Nat.{ℕ}
 use mathlib.Core.Path.{_≡_, refl, ap, _∙_}
@@ -6,8 +6,8 @@ use mathlib.Core.Bool.{Bool, true, false}
 use mir.Val.{boolByte}
 use Rattle.processor.specs.Logic.{if_then_else_}
 use Rattle.playback.specs.Replays.{textFits}
-use Rattle.capi.proofs.gg_replay.Statement.{statement}
-use Rattle.capi.proofs.gg_replay.Tie as tie
+use Rattle.capi_replay.proofs.gg_replay.Statement.{statement}
+use Rattle.capi_replay.proofs.gg_replay.Tie as tie
 
 as-number : (x : Bool) → boolByte x ≡ (if x then 1 else 0)
 as-number true = refl
