@@ -58,20 +58,20 @@ build_header_cpp() {
 # build_compare ARCHIVE
 build_compare() {
     need_archive "$1" &&
-        $CC $flags $(sources oracle bounds open edge faults trial generate junk sweep question posting session \
-            audit show tally stage named named_posting null matters compare) "$1" -o "$out/compare"
+        $CC $flags $(sources oracle bounds open edge faults fault_rows options trial generate junk sweep question \
+            posting session audit show tally stage named named_posting null matters compare) "$1" -o "$out/compare"
 }
 
 # What makes traces, and what that makes use of.
 trace_sources() {
-    sources trial generate junk sweep question posting trace author replay_faults
+    sources trial generate junk sweep question posting trace author replay_faults fault_rows
 }
 
 # build_replays ARCHIVE
 build_replays() {
     need_archives "$1" &&
         $CC $flags $(sources oracle bounds open edge faults show replay attempt traces listing replay_tally \
-            replay_named recorded replays) $(trace_sources) "$1" "$(replay_archive "$1")" -o "$out/replays"
+            replay_named recorded options replays) $(trace_sources) "$1" "$(replay_archive "$1")" -o "$out/replays"
 }
 
 # The second program's rules, boundary and replay once more, searching by words, each function under its own name.

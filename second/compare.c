@@ -4,6 +4,7 @@
 #include "matters.h"
 #include "named.h"
 #include "null.h"
+#include "options.h"
 #include "posting.h"
 #include "question.h"
 #include "session.h"
@@ -189,20 +190,11 @@ static int faults(void)
     return OK;
 }
 
-static bool read_number(const char *text, uint64_t *number)
-{
-    char *end;
-    if (*text < '0' || *text > '9')
-        return false;
-    *number = strtoull(text, &end, 10);
-    return *end == '\0';
-}
-
 /* Reads a step's name, as in 'memory:12345'. */
 static bool read_step(const char *text, unsigned *family, uint64_t *index)
 {
     const char *colon = strchr(text, ':');
-    if (!colon || !read_number(colon + 1, index))
+    if (!colon || !options_number(colon + 1, index))
         return false;
     for (*family = 0; family_name(*family); ++*family)
         if (strlen(family_name(*family)) == (size_t)(colon - text) &&
@@ -235,7 +227,7 @@ static int replay(const char *seed_text, const char *step_text)
     static struct trial t;
     unsigned family;
     uint64_t index;
-    if (!read_number(seed_text, &seed) || !read_step(step_text, &family, &index)) {
+    if (!options_number(seed_text, &seed) || !read_step(step_text, &family, &index)) {
         fputs("compare: replay takes a seed and a step such as 'memory:12345'\n", stderr);
         return USAGE;
     }
@@ -266,19 +258,17 @@ static int command(int count, char **words)
     return USAGE;
 }
 
+static bool take_fault(const char *name)
+{
+    fault_on = fault_by_name(name);
+    return fault_on != FAULT_NONE;
+}
+
 int main(int count, char **words)
 {
-    int at = 1;
-    for (; at + 1 < count && strncmp(words[at], "--", 2) == 0; at += 2) {
-        if (strcmp(words[at], "--fault") == 0)
-            fault_on = fault_by_name(words[at + 1]);
-        bool fault = strcmp(words[at], "--fault") == 0 && fault_on != FAULT_NONE;
-        bool number = strcmp(words[at], "--seed") == 0 && read_number(words[at + 1], &seed);
-        if (!fault && !number) {
-            fprintf(stderr, "compare: cannot use %s %s\n", words[at], words[at + 1]);
-            return USAGE;
-        }
-    }
+    int at = options_read(count, words, "compare", &seed, take_fault);
+    if (at == 0)
+        return USAGE;
     if (at < count && strcmp(words[at], "--help") == 0) {
         help(stdout);
         return OK;

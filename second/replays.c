@@ -1,5 +1,6 @@
 /* The driver of replays: makes traces from a seed, runs both programs, stops at the first difference. */
 #include "listing.h"
+#include "options.h"
 #include "recorded.h"
 #include "replay.h"
 #include "replay_faults.h"
@@ -143,20 +144,11 @@ static int print(void)
     return fwrite(out, 1, (size_t)written, stdout) == written ? OK : DIFFERS;
 }
 
-static bool read_number(const char *text, uint64_t *number)
-{
-    char *end;
-    if (*text < '0' || *text > '9')
-        return false;
-    *number = strtoull(text, &end, 10);
-    return *end == '\0';
-}
-
 /* Reads a trace's name, as in 'session:123', and makes it. */
 static bool remake(const char *seed_text, const char *text, unsigned *family, uint64_t *index)
 {
     const char *colon = strchr(text, ':');
-    if (!read_number(seed_text, &seed) || !colon || !read_number(colon + 1, index))
+    if (!options_number(seed_text, &seed) || !colon || !options_number(colon + 1, index))
         return false;
     for (*family = 0; families[*family].name; ++*family)
         if (strlen(families[*family].name) == (size_t)(colon - text) &&
@@ -210,19 +202,17 @@ static int command(int count, char **words)
     return USAGE;
 }
 
+static bool take_fault(const char *name)
+{
+    replay_fault_on = replay_fault_by_name(name);
+    return replay_fault_on != REPLAY_FAULT_NONE;
+}
+
 int main(int count, char **words)
 {
-    int at = 1;
-    for (; at + 1 < count && strncmp(words[at], "--", 2) == 0; at += 2) {
-        if (strcmp(words[at], "--fault") == 0)
-            replay_fault_on = replay_fault_by_name(words[at + 1]);
-        bool fault = strcmp(words[at], "--fault") == 0 && replay_fault_on != REPLAY_FAULT_NONE;
-        bool number = strcmp(words[at], "--seed") == 0 && read_number(words[at + 1], &seed);
-        if (!fault && !number) {
-            fprintf(stderr, "replays: cannot use %s %s\n", words[at], words[at + 1]);
-            return USAGE;
-        }
-    }
+    int at = options_read(count, words, "replays", &seed, take_fault);
+    if (at == 0)
+        return USAGE;
     if (at < count && strcmp(words[at], "--help") == 0) {
         help(stdout);
         return OK;

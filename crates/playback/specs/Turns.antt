@@ -9,7 +9,7 @@ use Rattle.processor.specs.Logic.{if_then_else_}
 use Rattle.trace.specs.Format.{recordReadable, bodyAt, nextPlace}
 use Rattle.text.specs.Lines.{line, doneLine, badLine}
 use Rattle.text.specs.Written.{written, Writes}
-use Rattle.recorded.specs.Session.{Session, begin, answerTo, sessionAfter}
+use Rattle.recorded.specs.Session.{begin, answerTo, sessionAfter}
 use Rattle.recorded.specs.Replay.{bodies, textFrom}
 use Rattle.session.specs.Told.{Begins, sessionOf}
 use Rattle.playback.specs.declared.turns.Turn.{Turn}
