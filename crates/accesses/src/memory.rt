@@ -7,7 +7,7 @@ use processor::controls::{Controls, USE_TPR_SHADOW, VIRTUAL_DELIVERY, VIRTUALIZE
 use processor::offsets::{VEOI, VICR_HI, VICR_LO, VTPR};
 use table::offsets::open_offset;
 
-#[derive(Drop)]
+#[derive(Clone, Copy)]
 pub enum Following {
     Tpr,
     Eoi,

@@ -1,4 +1,6 @@
 // The boundary that a C simulator links.
+#![tactic(auto)]
+
 ghost use Rattle.std.specs.Prelude.{List, ℕ};
 ghost use Rattle.calls.specs.Calls.{Handed, FreshReplies, gg_highest, gg_fresh};
 ghost use Rattle.replies.specs.Replies.{Replies, RepliesLent, gg_step, gg_external_interrupt, gg_leave};

@@ -1,4 +1,6 @@
 // The boundary that a C program links to replay a recorded session.
+#![tactic(auto)]
+
 ghost use Rattle.playback.specs.Replays.{GgReplays};
 
 use playback::replay;

@@ -3,7 +3,7 @@ ghost use Rattle.std.specs.Prelude.{◌≡◌};
 ghost use Rattle.command.specs.Command.{asked_of, piece_of, words_of, usage_text};
 
 // What the arguments ask.
-#[derive(Drop)]
+#[derive(Clone, Copy)]
 pub enum Asked {
     StandardInput,
     File,
@@ -12,7 +12,7 @@ pub enum Asked {
 }
 
 // What a read says: so many bytes more, the end of the input, that a signal came before any byte, or that it failed.
-#[derive(Drop)]
+#[derive(Clone, Copy)]
 pub enum Piece {
     Bytes(usize),
     End,
@@ -21,7 +21,7 @@ pub enum Piece {
 }
 
 // What could not be done.
-#[derive(Drop)]
+#[derive(Clone, Copy)]
 pub enum Deed {
     Opening,
     Reading,

@@ -4,7 +4,7 @@ ghost use Rattle.events.specs.Answers.{numbers, numbers_of};
 
 use processor::controls::Record;
 
-#[derive(Drop)]
+#[derive(Clone, Copy)]
 pub enum Answer {
     Refused { number: u8, check: u8 },
     Redirected(u64),
@@ -16,20 +16,20 @@ pub enum Answer {
 }
 
 // Whether an input is refused: by which number, and for refusal 4 by which check.
-#[derive(Drop)]
+#[derive(Clone, Copy)]
 pub enum Refusal {
     None,
     By { number: u8, check: u8 },
 }
 
-#[derive(Drop)]
+#[derive(Clone, Copy)]
 pub struct Outcome {
     pub answer: Answer,
     pub record: Record,
 }
 
 // An answer's number and its two values.
-#[derive(Drop)]
+#[derive(Clone, Copy)]
 pub struct Numbers {
     pub answer: u32,
     pub first: u64,

@@ -8,7 +8,7 @@ use crate::bounds::{
 };
 use processor::controls::{Controls, Record};
 
-#[derive(Drop)]
+#[derive(Clone, Copy)]
 pub enum Event {
     Entry(Controls),
     Request(u16),

@@ -7,7 +7,7 @@ use processor::controls::{
 };
 
 // What follows a WRMSR: nothing is stored in the first two cases.
-#[derive(Drop)]
+#[derive(Clone, Copy)]
 pub enum MsrWrite {
     Passthrough,
     Fault,

@@ -1,4 +1,6 @@
 // What a notification takes out of a lent descriptor: posted bits join VIRR, and are cleared. A slice may have any length.
+#![tactic(auto, unfolding(descriptor::specs::Descriptor::cleared, descriptor::specs::Descriptor::cleared_below, descriptor::specs::Descriptor::joined_below, stores::specs::Stores::set_long, stores::specs::Stores::set_word))]
+
 ghost use Rattle.std.specs.Prelude.{◌≡◌};
 ghost use Rattle.descriptor.specs.Descriptor.{joined, cleared};
 

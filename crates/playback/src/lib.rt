@@ -1,4 +1,6 @@
 // The replay of a trace into a lent buffer.
+#![tactic(auto, unfolding(crate::specs::Replays::buffer_after, crate::specs::Replays::text_fits, crate::specs::Turns::goes_on, crate::specs::Turns::last_of, recorded::specs::Replay::is_trace))]
+
 ghost use Rattle.std.specs.Prelude.{◌≡◌, length};
 ghost use Rattle.recorded.specs.Replay.{replay_text};
 ghost use Rattle.playback.specs.Replays.{room_for, Wrote, Replays};
@@ -9,7 +11,7 @@ mod play;
 mod turns;
 
 // Whether the text fits the buffer; where it does, how many bytes are written, and how many records have a line among them.
-#[derive(Drop)]
+#[derive(Clone, Copy)]
 pub struct Replayed {
     pub fits: bool,
     pub written: u64,

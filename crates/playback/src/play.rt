@@ -14,7 +14,7 @@ use trace::fields::two_at;
 use trace::kinds::length_of_kind;
 
 // Where the text ends, and how many records have a line in it.
-#[derive(Drop)]
+#[derive(Clone, Copy)]
 pub struct Text {
     pub end: u64,
     pub count: u32,

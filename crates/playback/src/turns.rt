@@ -8,7 +8,7 @@ use session::{State, begin, carried_out};
 use text::lines::{bad_line, done_line, line};
 
 // What is held, how many records may still be read, the place of the next, how many lines are written, and where they end.
-#[derive(Drop)]
+#[derive(Clone, Copy)]
 pub struct Turn {
     pub state: State,
     pub left: u32,

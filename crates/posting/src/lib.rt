@@ -1,4 +1,6 @@
 // What carries an external interrupt out that nothing refuses: passthrough, exit 1, or the posting of a lent descriptor.
+#![tactic(auto, unfolding(meaning::specs::External::descriptor_out, meaning::specs::External::external_interrupt, meaning::specs::External::posted_record, meaning::specs::External::posting))]
+
 ghost use Rattle.std.specs.Prelude.{◌≡◌};
 ghost use Rattle.descriptor.specs.Descriptor.{cleared};
 ghost use Rattle.meaning.specs.External.{notifies as notifiesBy, posted_record, posting as postingOf, external_interrupt, descriptor_out, LeavesLent};

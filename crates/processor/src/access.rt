@@ -1,5 +1,5 @@
 // What a guest's access to memory or to CR8 comes to.
-#[derive(Drop)]
+#[derive(Clone, Copy)]
 pub enum Access {
     Passthrough,
     Exit,

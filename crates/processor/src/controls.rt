@@ -25,7 +25,7 @@ pub const PROCESS_POSTED_INTERRUPTS: u8 = 9;
 
 pub const ACKNOWLEDGE_ON_EXIT: u8 = 10;
 
-#[derive(Drop)]
+#[derive(Clone, Copy)]
 pub struct Controls {
     pub flags: u32,
     pub threshold: u32,
@@ -36,7 +36,7 @@ pub struct Controls {
     pub eoi_exit_3: u64,
 }
 
-#[derive(Drop)]
+#[derive(Clone, Copy)]
 pub struct Record {
     pub guest: bool,
     pub rvi: u8,

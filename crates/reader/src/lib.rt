@@ -1,6 +1,8 @@
 // A reader that keeps the trace and its place in it. The borrow checker covers no function over a struct that holds a slice: each is proved
 // by hand, and covered functions of `trace` do the work. Callers that hold slice and place apart, as the loop of a replay does, go through
 // `body_from` and `readable_from`, which make a reader of the two: they need no walk.
+#![tactic(auto)]
+
 ghost use Rattle.std.specs.Prelude.{◌≡◌};
 ghost use Rattle.trace.specs.Format.{body_at, next_place, record_readable};
 
@@ -8,7 +10,7 @@ use trace::bodies::{body_at, next_place};
 use trace::kinds::record_readable;
 
 // The trace, and where in it the record to be read begins.
-#[derive(Drop)]
+#[derive(Clone, Copy)]
 pub struct Reader<'a> {
     pub trace: &'a [u8],
     pub place: usize,

@@ -2,7 +2,7 @@
 ghost use Rattle.std.specs.Prelude.{◌≡◌};
 ghost use Rattle.registers.specs.Vectors.{or_else};
 
-#[derive(Drop)]
+#[derive(Clone, Copy)]
 pub enum Found {
     None,
     Vector(u8),

@@ -5,7 +5,7 @@ ghost use Rattle.replay.specs.Pieces.{Within};
 use command::{Piece, piece_of};
 
 // How many bytes were read, and whether a read failed.
-#[derive(Drop)]
+#[derive(Clone, Copy)]
 pub struct Input {
     pub length: usize,
     pub failed: bool,

@@ -1,4 +1,6 @@
 // One record of a trace, carried out on a lent page.
+#![tactic(auto, unfolding(trace::specs::Records::boundary_of, trace::specs::Records::event_of, trace::specs::Records::memory_read_of, trace::specs::Records::memory_write_of, trace::specs::Records::to_cr8_of, trace::specs::Records::wrmsr_of))]
+
 ghost use Rattle.processor.specs.Controls.{with_controls};
 ghost use Rattle.session.specs.Told.{Begins, ControlsTold, EntryTold, Tells, session_of};
 ghost use Rattle.trace.specs.Format.{kind_of};
@@ -16,14 +18,14 @@ use trace::records::controls_of;
 mod kinds;
 
 // What is held beside the page: the processor record, and the controls for later entries.
-#[derive(Drop)]
+#[derive(Clone, Copy)]
 pub struct State {
     pub record: Record,
     pub controls: Controls,
 }
 
 // An answer's numbers, and what is held after it.
-#[derive(Drop)]
+#[derive(Clone, Copy)]
 pub struct Told {
     pub numbers: Numbers,
     pub state: State,

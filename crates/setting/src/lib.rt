@@ -1,4 +1,6 @@
 // One vector of a 256-bit register of a lent page set or cleared. A slice may have any length.
+#![tactic(auto, unfolding(registers::specs::Vectors::put_vector))]
+
 ghost use Rattle.std.specs.Prelude.{◌≡◌, ◌%◌};
 ghost use Rattle.registers.specs.Vectors.{vector_byte, put_bit, put_vector};
 

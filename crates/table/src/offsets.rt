@@ -56,7 +56,7 @@ const READ_WRITE: u64 = APIC_ID
     + DIVIDE;
 
 // The registers open in each setting.
-#[derive(Drop)]
+#[derive(Clone, Copy)]
 struct Open {
     // Control 3 off and VID off: a register's first byte alone.
     tpr: u64,
