@@ -1,0 +1,6 @@
+-- Above a word's highest set bit stand its leading zeros.
+use Rattle.registers.proofs.Highest.{leading-highest}
+use Rattle.registers.proofs.vectors.highest_bit.Goals as goal
+
+pub returns : goal.returns
+returns c = leading-highest c.args.word 32 c.ranges.word.fits
