@@ -1,7 +1,7 @@
 // The boundary between two guest instructions.
 ghost use Rattle.std.specs.Prelude.{◌≡◌};
 ghost use Rattle.meaning.specs.After.{Leaves};
-ghost use Rattle.meaning.specs.Boundary.{delivered_page, delivery as deliveryOf, boundary_at, boundary as boundary_of};
+ghost use Rattle.meaning.specs.Boundary.{delivered_page, delivery as delivery_of, boundary_at, boundary as boundary_of};
 
 use events::answer::Outcome;
 use priorities::procedures::{low_cleared, open_boundary};
@@ -21,7 +21,7 @@ fn move_to_service(page: &mut [u8], vector: u8)
 }
 
 fn delivery(page: &mut [u8], record: Record) -> Outcome
-    ensures { Leaves (deliveryOf page.old «record») result page.new }
+    ensures { Leaves (delivery_of page.old «record») result page.new }
 {
     let vector = record.rvi;
     move_to_service(page, vector);

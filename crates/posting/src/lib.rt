@@ -3,7 +3,7 @@
 
 ghost use Rattle.std.specs.Prelude.{◌≡◌};
 ghost use Rattle.descriptor.specs.Descriptor.{cleared};
-ghost use Rattle.meaning.specs.External.{notifies as notifiesBy, posted_record, posting as postingOf, external_interrupt, descriptor_out, LeavesLent};
+ghost use Rattle.meaning.specs.External.{notifies as notifies_by, posted_record, posting as posting_of, external_interrupt, descriptor_out, LeavesLent};
 
 use descriptor::posted::{highest_posted, raised_by};
 use events::answer::Outcome;
@@ -16,7 +16,7 @@ use processor::controls::{
 
 // Posting is on, and this is the notification vector, all 16 bits of it.
 fn notifies(c: Controls, vector: u32) -> bool
-    ensures { result ≡ notifiesBy c vector }
+    ensures { result ≡ notifies_by c vector }
 {
     c.is_on(PROCESS_POSTED_INTERRUPTS) & (vector == c.notification as u32)
 }
@@ -32,7 +32,7 @@ fn posted_record(record: Record, descriptor: &[u8]) -> Record
 
 // Posted bits join VIRR and are cleared with the outstanding bit; evaluation, quiet.
 fn posting(page: &mut [u8], record: Record, descriptor: &mut [u8]) -> Outcome
-    ensures { LeavesLent (postingOf page.old «record» descriptor.old) (cleared descriptor.old) result page.new descriptor.new }
+    ensures { LeavesLent (posting_of page.old «record» descriptor.old) (cleared descriptor.old) result page.new descriptor.new }
 {
     let next = posted_record(record, descriptor);
     join(page, descriptor);

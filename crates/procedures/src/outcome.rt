@@ -1,12 +1,12 @@
 // An answer with its record, on whatever page.
 ghost use Rattle.std.specs.Prelude.{ℕ, List};
-ghost use Rattle.meaning.specs.After.{Leaves, redirected as redirectedOf, passthrough as passthroughOf, fault as faultOf, exit as exit_of, delivered as deliveredOf, quiet as quietOf};
+ghost use Rattle.meaning.specs.After.{Leaves, redirected as redirected_of, passthrough as passthrough_of, fault as fault_of, exit as exit_of, delivered as delivered_of, quiet as quiet_of};
 
 use events::answer::{Answer, Outcome};
 use processor::controls::Record;
 
 pub fn redirected(record: Record, value: u64) -> Outcome
-    ensures { (p : List ℕ) → Leaves (redirectedOf value p «record») result p }
+    ensures { (p : List ℕ) → Leaves (redirected_of value p «record») result p }
 {
     Outcome {
         answer: Answer::Redirected(value),
@@ -15,7 +15,7 @@ pub fn redirected(record: Record, value: u64) -> Outcome
 }
 
 pub fn passthrough(record: Record) -> Outcome
-    ensures { (p : List ℕ) → Leaves (passthroughOf p «record») result p }
+    ensures { (p : List ℕ) → Leaves (passthrough_of p «record») result p }
 {
     Outcome {
         answer: Answer::Passthrough,
@@ -24,7 +24,7 @@ pub fn passthrough(record: Record) -> Outcome
 }
 
 pub fn fault(record: Record) -> Outcome
-    ensures { (p : List ℕ) → Leaves (faultOf p «record») result p }
+    ensures { (p : List ℕ) → Leaves (fault_of p «record») result p }
 {
     Outcome {
         answer: Answer::Fault,
@@ -45,7 +45,7 @@ pub fn exit(record: Record, reason: u32, qualification: u64) -> Outcome
 }
 
 pub fn delivered(record: Record, vector: u8) -> Outcome
-    ensures { (p : List ℕ) → Leaves (deliveredOf vector p «record») result p }
+    ensures { (p : List ℕ) → Leaves (delivered_of vector p «record») result p }
 {
     Outcome {
         answer: Answer::Delivered(vector),
@@ -54,7 +54,7 @@ pub fn delivered(record: Record, vector: u8) -> Outcome
 }
 
 pub fn quiet(record: Record) -> Outcome
-    ensures { (p : List ℕ) → Leaves (quietOf p «record») result p }
+    ensures { (p : List ℕ) → Leaves (quiet_of p «record») result p }
 {
     Outcome {
         answer: Answer::Quiet,

@@ -1,7 +1,7 @@
 // The five procedures.
 ghost use Rattle.std.specs.Prelude.{◌≡◌};
 ghost use Rattle.meaning.specs.After.{Leaves};
-ghost use Rattle.meaning.specs.Procedures.{ppr_virtualization, evaluation as evaluationOf, evaluated_quiet, tpr_virtualization, eoi_end, requested_record, self_ipi_virtualization};
+ghost use Rattle.meaning.specs.Procedures.{ppr_virtualization, evaluation as evaluation_of, evaluated_quiet, tpr_virtualization, eoi_end, requested_record, self_ipi_virtualization};
 ghost use Rattle.processor.specs.Offsets.{visr};
 ghost use Rattle.registers.specs.Vectors.{clear_vector, highest};
 
@@ -26,7 +26,7 @@ pub fn ppr_virtualization(page: &mut [u8], record: Record)
 
 // Whether RVI is recognised against VPPR.
 pub fn evaluation(page: &[u8], record: Record) -> Record
-    ensures { result ≡ evaluationOf page.now «record» }
+    ensures { result ≡ evaluation_of page.now «record» }
 {
     let controls = record.controls;
     let mut next = record;

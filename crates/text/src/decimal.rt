@@ -1,6 +1,6 @@
 // A character, and a number in decimal.
 ghost use Rattle.std.specs.Prelude.{◌≤◌, ◌<◌, ◌^◌, ◌≡◌, [], ◌∷◌};
-ghost use Rattle.text.specs.Decimal.{digit as digitOf, last_digits, decimal as decimalOf};
+ghost use Rattle.text.specs.Decimal.{digit as digit_of, last_digits, decimal as decimal_of};
 ghost use Rattle.text.specs.Lines.{field as field_of};
 ghost use Rattle.text.specs.Written.{Writes};
 
@@ -19,7 +19,7 @@ pub fn put(out: &mut [u8], at: u64, byte: u8) -> u64
 
 // The character of a number's last digit.
 fn digit(n: u64) -> u8
-    ensures { result ≡ digitOf n }
+    ensures { result ≡ digit_of n }
 {
     0x30 + (n % 10) as u8
 }
@@ -52,7 +52,7 @@ fn four(out: &mut [u8], at: u64, n: u64) -> u64
 // One to four digits.
 fn short(out: &mut [u8], at: u64, n: u64) -> u64
     requires { (at < 2 ^ 38) × (n < 10000) }
-    ensures { Writes out.old at (decimalOf n) result out.new }
+    ensures { Writes out.old at (decimal_of n) result out.new }
 {
     if n < 10 {
         return put(out, at, digit(n));
@@ -69,7 +69,7 @@ fn short(out: &mut [u8], at: u64, n: u64) -> u64
 // The digits of a number, the highest first: one to four, or those of the rest and the last four.
 fn decimal(out: &mut [u8], at: u64, n: u64) -> u64
     requires { at < 2 ^ 36 }
-    ensures { Writes out.old at (decimalOf n) result out.new }
+    ensures { Writes out.old at (decimal_of n) result out.new }
 {
     if n < 10000 {
         return short(out, at, n);

@@ -1,6 +1,5 @@
 -- `procedures::virtualization::eoi_end` meets its contract: code and definition take the same cases. Assumes nothing.
 use Rattle.meaning.specs.Procedures.{eoi_end}
-use borrow.Author.Rules.{rules}
 use Rattle.procedures.proofs.virtualization.eoi_end.Goals as goal
 
 pub returns-then-eoi_exit : goal.returns-then-eoi_exit
