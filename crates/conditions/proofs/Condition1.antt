@@ -17,7 +17,6 @@ use Rattle.events.specs.declared.answer.Refusal.TheVariants.{None, By}
 use Rattle.events.specs.Events.{in_bounds, allowed}
 use Rattle.events.specs.declared.event.Event.{Event}
 use Rattle.events.specs.declared.event.Event.TheVariants.{Entry, Request, MemoryRead, MemoryWrite, ToCr8, FromCr8, Rdmsr, Wrmsr, Boundary}
-use Rattle.processor.specs.Logic.{if◌then◌else◌}
 use Rattle.page.specs.Page.{byte_at}
 use Rattle.rules.specs.EntryChecks.{failing_check}
 use Rattle.descriptor.specs.Descriptor.{cleared}

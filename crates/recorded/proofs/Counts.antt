@@ -1,7 +1,7 @@
 -- The count reported is that of the records whose lines are printed. Assumes nothing.
 use native.Mathlib.Omega.{arith}
-use Prim.Native.Nat.{ℕ, zero, suc, ◌+◌, ◌/◌, ◌%◌, ◌≤◌}
-use mathlib.Core.Path.{◌≡◌, refl, sym, ap, ◌∙◌}
+use Prim.Native.Nat.{ℕ, zero, suc, ◌+◌, ◌/◌}
+use mathlib.Core.Path.{◌≡◌, refl, ap}
 use mathlib.Core.Bool.{Bool, true, false}
 use mathlib.Core.List.{List, [], ◌∷◌, ◌++◌}
 use lib.Dec.{eqb, ltb}
@@ -10,7 +10,7 @@ use borrow.Author.Tests.{ne_eqb}
 use Rattle.processor.specs.Logic.{if◌then◌else◌}
 use Rattle.events.specs.declared.answer.Numbers.{Numbers}
 use Rattle.text.specs.Decimal.{digit, digits}
-use Rattle.text.specs.Lines.{field, line, done_line, bad_line, line_end, blank}
+use Rattle.text.specs.Lines.{line, done_line, bad_line, line_end}
 use Rattle.recorded.specs.Session.{Session, begin, session_after, answers_to}
 use Rattle.recorded.specs.Replay.{bodies, ends_bad, lines, last_line, text_from, is_trace, replay_text, replayed}
 use Rattle.recorded.specs.Theorems.{line_ends, Counted}

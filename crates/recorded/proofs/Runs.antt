@@ -3,10 +3,9 @@ use Prim.Native.Nat.{ℕ}
 use mathlib.Core.Path.{◌≡◌, refl, ap}
 use mathlib.Core.Bool.{Bool, true, false}
 use mathlib.Core.List.{List, [], ◌∷◌}
-use Rattle.processor.specs.Logic.{if◌then◌else◌}
 use Rattle.events.specs.declared.answer.Numbers.{Numbers}
-use Rattle.meaning.specs.Run.{Held, after, answers, step_of, held_after}
-use Rattle.trace.specs.Records.{is_controls, controls_of}
+use Rattle.meaning.specs.Run.{after, answers, step_of}
+use Rattle.trace.specs.Records.{is_controls}
 use Rattle.recorded.specs.Session.{Session, begin, input_of, answer_to, session_after, answers_to, session_end}
 use Rattle.recorded.specs.Theorems.{inputs_read, event_answers, IsRun}
 

@@ -1,12 +1,11 @@
 -- What a replay prints, record by record. Assumes nothing.
 use native.Mathlib.Omega.{arith}
-use Prim.Native.Nat.{ℕ, zero, suc, ◌+◌}
-use mathlib.Core.Path.{◌≡◌, refl, sym, ap, ◌∙◌}
+use Prim.Native.Nat.{ℕ, suc, ◌+◌}
+use mathlib.Core.Path.{◌≡◌, ap, ◌∙◌}
 use mathlib.Core.Bool.{Bool, true, false}
-use mathlib.Core.List.{List, [], ◌∷◌, ◌++◌, append_assoc}
+use mathlib.Core.List.{List, ◌++◌, append_assoc}
 use lib.Dec.{leb}
 use lib.ListN.{length}
-use Rattle.processor.specs.Logic.{if◌then◌else◌}
 use Rattle.trace.specs.Format.{record_readable, body_at, next_place}
 use Rattle.text.specs.Lines.{line, done_line, bad_line}
 use Rattle.recorded.specs.Session.{Session, answer_to, session_after, answers_to}

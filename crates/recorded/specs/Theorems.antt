@@ -1,5 +1,5 @@
 -- What is proved of every replay.
-use Rattle.std.specs.Prelude.{ℕ, ◌+◌, ◌≡◌, Bool, true, false, ◌&&◌, List, [], ◌∷◌, ◌++◌, leb, eqb, length, take}
+use Rattle.std.specs.Prelude.{ℕ, ◌+◌, ◌≡◌, Bool, true, ◌&&◌, List, [], ◌∷◌, ◌++◌, leb, eqb, length, take}
 use Rattle.processor.specs.Logic.{if◌then◌else◌}
 use Rattle.processor.specs.Controls.{no_controls, virtual_delivery}
 use Rattle.processor.specs.declared.controls.Controls.{Controls}

@@ -2,7 +2,7 @@
 use Rattle.std.specs.Prelude.{ℕ, ◌+◌, ◌-◌, Bool, ◌&&◌, List, [], ◌∷◌, eqb, replicate}
 use Rattle.std.specs.Bool.{beq}
 use Rattle.processor.specs.Logic.{all_below}
-use Rattle.processor.specs.Rows.{all_hold, same_bytes, word, with_words}
+use Rattle.processor.specs.Rows.{same_bytes, word, with_words}
 use Rattle.registers.specs.Vectors.{is_set, set_vector, clear_vector}
 
 -- as much of a page as holds both registers
