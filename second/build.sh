@@ -7,7 +7,7 @@ mkdir -p "$out"
 
 # Stops where rt is missing, since nothing else makes the static library.
 need_rt() {
-    have rt && return
+    command -v rt >/dev/null 2>&1 && return
     echo "rt isn't on PATH: it is the Rattle toolchain, which proves the crates and makes the library." >&2
     echo "$root/README.md names its commands and says where to read on." >&2
     return 1
@@ -16,8 +16,8 @@ need_rt() {
 # need_archive ARCHIVE: stops where the archive is missing, since every program links it.
 need_archive() {
     [ -f "$1" ] && return
-    echo "no static library at $1: in $root 'rt staticlib capi' makes target/staticlib/libcapi.a," >&2
-    echo "and 'rt staticlib capi_replay' makes libcapi_replay.a beside it." >&2
+    echo "no static library at $1: in $root tools/staticlib.sh makes target/staticlib/libcapi.a" >&2
+    echo "and libcapi_replay.a beside it." >&2
     need_rt
     return 1
 }
@@ -35,8 +35,8 @@ need_archives() {
 # archive_is_old ARCHIVE: whether it is missing or older than a source that the library is made from
 archive_is_old() {
     [ -f "$1" ] || return 0
-    [ -n "$(find "$root/crates.txt" "$root/crates" -newer "$1" \
-        \( -name '*.rt' -o -name '*.antt' -o -name crates.txt \))" ]
+    [ -n "$(find "$root/crates.txt" "$root/crates" -path "$root/crates/*/out" -prune -o -newer "$1" \
+        \( -name '*.rt' -o -name '*.antt' -o -name crates.txt \) -print)" ]
 }
 
 # The named sources of this folder, as paths.

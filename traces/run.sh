@@ -6,13 +6,13 @@
 set -u
 
 root=$(cd "$(dirname "$0")/.." && pwd)
-program=${1:-$root/target/bin/replay}
+program=${1:-$root/crates/replay/out/replay}
 . "$root/second/toolchain.sh"
 . "$root/second/build.sh"
 
 # Without the program there is nothing to check.
 if [ ! -f "$program" ]; then
-    echo "no program at $program: 'rt check replay' in $root makes target/bin/replay." >&2
+    echo "no program at $program: 'rt run </dev/null' in $root/crates/replay makes out/replay there." >&2
     echo "0 passed, 1 failed"
     exit 1
 fi

@@ -9,9 +9,8 @@ archive=${1:-$root/target/staticlib/libcapi.a}
 . "$root/second/build.sh"
 
 if [ $# = 0 ] && archive_is_old "$archive"; then
-    echo "the static library is missing or older than a crate's source; 'rt staticlib capi' makes it" >&2
-    need_rt || exit 2
-    (cd "$root" && rt staticlib capi >&2)
+    echo "the static library is missing or older than a crate's source; tools/staticlib.sh makes it" >&2
+    "$root/tools/staticlib.sh" capi >&2
 fi
 build_simulator "$archive"
 exec $RUN "$out/simulator"

@@ -1,5 +1,5 @@
-// The boundary that a C simulator links.
-#![tactic(auto)]
+// The boundary that a C simulator links, as functions of this repository: `capi_c` exports them.
+#![tactic(auto, using(crate::proofs::Hand::handed))]
 
 ghost use Rattle.std.specs.Prelude.{List, ℕ};
 ghost use Rattle.calls.specs.Calls.{Handed, FreshReplies, gg_highest, gg_fresh};
@@ -11,8 +11,7 @@ use calls::highest::highest_numbers;
 use replies::{external_bytes, leave_bytes, step_bytes};
 
 // One event on a page and a record: the answer's number comes back, its two values go to first and second.
-#[unsafe(no_mangle)]
-pub extern "C" fn gg_step(
+pub fn gg_step(
     page: &mut [u8],
     record: &mut [u8],
     event: &[u8],
@@ -25,8 +24,7 @@ pub extern "C" fn gg_step(
 }
 
 // An external interrupt on a page, a record and a descriptor: the answer's number comes back, its two values go to first and second.
-#[unsafe(no_mangle)]
-pub extern "C" fn gg_external_interrupt(
+pub fn gg_external_interrupt(
     page: &mut [u8],
     record: &mut [u8],
     descriptor: &mut [u8],
@@ -44,8 +42,7 @@ pub extern "C" fn gg_external_interrupt(
 }
 
 // The guest leaves for a reason outside the model: the answer's number comes back, its two values go to first and second.
-#[unsafe(no_mangle)]
-pub extern "C" fn gg_leave(record: &mut [u8], first: &mut u64, second: &mut u64) -> u32
+pub fn gg_leave(record: &mut [u8], first: &mut u64, second: &mut u64) -> u32
     ensures { (p : List ℕ) → Replies (gg_leave p «record».old) result first.new second.new «record».new p }
 {
     hand_over(leave_bytes(record), first, second)
@@ -53,16 +50,14 @@ pub extern "C" fn gg_leave(record: &mut [u8], first: &mut u64, second: &mut u64)
 
 // The highest request (base VIRR) or service (base VISR) of a page, or none: the answer's number comes back, its two values go to
 // first and second.
-#[unsafe(no_mangle)]
-pub extern "C" fn gg_highest(page: &[u8], base: u32, first: &mut u64, second: &mut u64) -> u32
+pub fn gg_highest(page: &[u8], base: u32, first: &mut u64, second: &mut u64) -> u32
     ensures { Handed (gg_highest page.now base) result first.new second.new }
 {
     hand_over(highest_numbers(page, base), first, second)
 }
 
 // The record before any event, where 48 bytes are lent.
-#[unsafe(no_mangle)]
-pub extern "C" fn gg_fresh(record: &mut [u8]) -> u32
+pub fn gg_fresh(record: &mut [u8]) -> u32
     ensures { FreshReplies (gg_fresh «record».old) result «record».new }
 {
     fresh_bytes(record)

@@ -1,6 +1,11 @@
 // Replays a recorded session: the trace from standard input, its lines to standard output.
-use libc::{STDIN_FILENO, STDOUT_FILENO};
+#![tactic(auto)]
+
+ghost use Rattle.std.specs.Prelude.{◌≤◌, length, IfOk};
+
 use playback::replay;
+use std::io;
+use std::io::Read;
 
 // How many records a run takes, and the room for as many lines: 50 bytes for each, and 11 for the last.
 const LIMIT: u32 = 10_000;
@@ -10,11 +15,26 @@ const ROOM: usize = 500_011;
 // One byte more than the longest trace, so that a longer one is seen to be longer.
 const READ: usize = 61_441;
 
-fn main() {
+// Reads until the buffer is full or the input ends, and answers how many bytes it put at the buffer's start.
+fn read_full(input: &mut impl Read, buffer: &mut [u8]) -> io::Result<usize>
+    ensures { IfOk result (λ n. n ≤ length buffer.new) }
+{
+    let mut done = 0;
+    while done < buffer.len() {
+        let more = input.read(&mut buffer[done..])?;
+        if more == 0 {
+            break;
+        }
+        done += more;
+    }
+    Ok(done)
+}
+
+fn main(rt: HostRuntime) -> io::Result<()> {
     let mut trace = [0u8; READ];
-    let length = io::read_full(STDIN_FILENO, &mut trace);
+    let length = read_full(&mut rt.reader(), &mut trace)?;
     let mut out = [0u8; ROOM];
     let text = replay(&trace[..length], LIMIT, &mut out);
     let written = text.written as usize;
-    io::write_all(STDOUT_FILENO, &out[..written]);
+    rt.write_all(&out[..written])
 }

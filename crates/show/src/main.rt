@@ -1,10 +1,13 @@
 // Shows the model at work: one session of bench cases K1 to K3, then one wake-up call with ICR bit 13 off and with it on, then a guest
 // that leaves, then a request of vector 00H.
+#![tactic(auto)]
+
 use crate::words::{say, say_answer, say_requests, say_status};
 use events::event::Event;
 use model::{fresh_record, leave, step};
 use processor::controls::{Controls, Record};
 use processor::offsets::{VEOI, VICR_LO};
+use std::io;
 
 mod words;
 
@@ -46,19 +49,26 @@ fn write_of_four(offset: u16, value: u64) -> Event {
 }
 
 // One event: its words, its answer, and RVI, SVI and VPPR after it.
-fn show(page: &mut [u8], record: Record, words: &[u8], event: Event) -> Record {
+fn show(
+    rt: &impl Print,
+    page: &mut [u8],
+    record: Record,
+    words: &[u8],
+    event: Event,
+) -> io::Result<Record> {
     let outcome = step(page, record, event);
     let answer = outcome.answer;
     let next = outcome.record;
-    say(words);
-    say_answer(answer);
-    say_status(page, next);
-    next
+    say(rt, words)?;
+    say_answer(rt, answer)?;
+    say_status(rt, page, next)?;
+    Ok(next)
 }
 
-fn show_entry(page: &mut [u8], record: Record) -> Record {
+fn show_entry(rt: &impl Print, page: &mut [u8], record: Record) -> io::Result<Record> {
     let event = Event::Entry(controls_of(CONTROLS_M));
     show(
+        rt,
         page,
         record,
         b"  entry under M:                             ",
@@ -66,9 +76,10 @@ fn show_entry(page: &mut [u8], record: Record) -> Record {
     )
 }
 
-fn show_boundary(page: &mut [u8], record: Record) -> Record {
+fn show_boundary(rt: &impl Print, page: &mut [u8], record: Record) -> io::Result<Record> {
     let event = open_boundary();
     show(
+        rt,
         page,
         record,
         b"  open boundary:                             ",
@@ -77,22 +88,24 @@ fn show_boundary(page: &mut [u8], record: Record) -> Record {
 }
 
 // K1 under M: request 60H, entry, open boundary.
-fn show_k1(page: &mut [u8]) -> Record {
+fn show_k1(rt: &impl Print, page: &mut [u8]) -> io::Result<Record> {
     let event = Event::Request(0x60);
     let requested = show(
+        rt,
         page,
         fresh_record(),
         b"  request 60H:                               ",
         event,
-    );
-    let entered = show_entry(page, requested);
-    show_boundary(page, entered)
+    )?;
+    let entered = show_entry(rt, page, requested)?;
+    show_boundary(rt, page, entered)
 }
 
 // The wake-up call as the driver means it.
-fn show_self_ipi(page: &mut [u8], record: Record) -> Record {
+fn show_self_ipi(rt: &impl Print, page: &mut [u8], record: Record) -> io::Result<Record> {
     let event = write_of_four(VICR_LO, 0x0004_0071);
     show(
+        rt,
         page,
         record,
         b"  write VICR_LO 00040071 (self-IPI of 71H):  ",
@@ -101,9 +114,10 @@ fn show_self_ipi(page: &mut [u8], record: Record) -> Record {
 }
 
 // The wake-up call with ICR bit 13 set.
-fn show_bit_13(page: &mut [u8], record: Record) -> Record {
+fn show_bit_13(rt: &impl Print, page: &mut [u8], record: Record) -> io::Result<Record> {
     let event = write_of_four(VICR_LO, 0x0004_2071);
     show(
+        rt,
         page,
         record,
         b"  write VICR_LO 00042071 (bit 13 is set):    ",
@@ -111,9 +125,10 @@ fn show_bit_13(page: &mut [u8], record: Record) -> Record {
     )
 }
 
-fn show_eoi(page: &mut [u8], record: Record) -> Record {
+fn show_eoi(rt: &impl Print, page: &mut [u8], record: Record) -> io::Result<Record> {
     let event = write_of_four(VEOI, 0);
     show(
+        rt,
         page,
         record,
         b"  write VEOI 00000000 (end of 71H):          ",
@@ -122,87 +137,109 @@ fn show_eoi(page: &mut [u8], record: Record) -> Record {
 }
 
 // K2 and K3: the self-IPI of 71H, its delivery, and its end.
-fn show_k2_and_k3(page: &mut [u8], serving: Record) {
-    let requested = show_self_ipi(page, serving);
-    let nested = show_boundary(page, requested);
-    show_eoi(page, nested);
+fn show_k2_and_k3(rt: &impl Print, page: &mut [u8], serving: Record) -> io::Result<()> {
+    let requested = show_self_ipi(rt, page, serving)?;
+    let nested = show_boundary(rt, page, requested)?;
+    show_eoi(rt, page, nested)?;
+    Ok(())
 }
 
-fn show_call_sent(page: &mut [u8], serving: Record) {
-    say(b"\nThe wake-up call after K1 with ICR bit 13 clear: the model sends it.\n");
-    say_requests(page);
-    let requested = show_self_ipi(page, serving);
-    say_requests(page);
-    show_boundary(page, requested);
-}
-
-fn show_call_left(page: &mut [u8], serving: Record) {
+fn show_call_sent(rt: &impl Print, page: &mut [u8], serving: Record) -> io::Result<()> {
     say(
+        rt,
+        b"\nThe wake-up call after K1 with ICR bit 13 clear: the model sends it.\n",
+    )?;
+    say_requests(rt, page)?;
+    let requested = show_self_ipi(rt, page, serving)?;
+    say_requests(rt, page)?;
+    show_boundary(rt, page, requested)?;
+    Ok(())
+}
+
+fn show_call_left(rt: &impl Print, page: &mut [u8], serving: Record) -> io::Result<()> {
+    say(
+        rt,
         b"\nThe same call with ICR bit 13 set: the model leaves it to the hypervisor, here one that drops it.\n",
-    );
-    say_requests(page);
-    let left = show_bit_13(page, serving);
-    say_requests(page);
-    let entered = show_entry(page, left);
-    show_boundary(page, entered);
+    )?;
+    say_requests(rt, page)?;
+    let left = show_bit_13(rt, page, serving)?;
+    say_requests(rt, page)?;
+    let entered = show_entry(rt, page, left)?;
+    show_boundary(rt, page, entered)?;
+    Ok(())
 }
 
 // The guest leaves for a reason outside the model.
-fn show_left(page: &[u8], record: Record) -> Record {
+fn show_left(rt: &impl Print, page: &[u8], record: Record) -> io::Result<Record> {
     let outcome = leave(record);
     let answer = outcome.answer;
     let next = outcome.record;
-    say(b"  the guest leaves:                          ");
-    say_answer(answer);
-    say_status(page, next);
-    next
+    say(rt, b"  the guest leaves:                          ")?;
+    say_answer(rt, answer)?;
+    say_status(rt, page, next)?;
+    Ok(next)
 }
 
-fn show_leave(page: &mut [u8], serving: Record) {
-    say(b"\nThe guest leaves by CPUID with 71H requested: the request waits for the next entry.\n");
-    let requested = show_self_ipi(page, serving);
-    let left = show_left(page, requested);
-    let entered = show_entry(page, left);
-    show_boundary(page, entered);
+fn show_leave(rt: &impl Print, page: &mut [u8], serving: Record) -> io::Result<()> {
+    say(
+        rt,
+        b"\nThe guest leaves by CPUID with 71H requested: the request waits for the next entry.\n",
+    )?;
+    let requested = show_self_ipi(rt, page, serving)?;
+    let left = show_left(rt, page, requested)?;
+    let entered = show_entry(rt, page, left)?;
+    show_boundary(rt, page, entered)?;
+    Ok(())
 }
 
 // K12: RVI is 00 with nothing requested and with vector 00H requested; the search tells the two apart.
-fn show_k12(page: &mut [u8]) {
+fn show_k12(rt: &impl Print, page: &mut [u8]) -> io::Result<()> {
     say(
+        rt,
         b"\nK12, under V (controls 0, 4 and 5): vector 00H is requested, and RVI is 00 as before.\n",
-    );
-    say(b"  before any event:                                                                   ");
-    say_status(page, fresh_record());
+    )?;
+    say(
+        rt,
+        b"  before any event:                                                                   ",
+    )?;
+    say_status(rt, page, fresh_record())?;
     let event = Event::Request(0);
     let requested = show(
+        rt,
         page,
         fresh_record(),
         b"  request 00H:                               ",
         event,
-    );
+    )?;
     let entry = Event::Entry(controls_of(CONTROLS_V));
     show(
+        rt,
         page,
         requested,
         b"  entry under V:                             ",
         entry,
-    );
+    )?;
+    Ok(())
 }
 
-fn main() {
+fn main(rt: HostRuntime) -> io::Result<()> {
     say(
+        &rt,
         b"Values in hex; answer and exit numbers in decimal. RVI, SVI, VPPR and what is highest are those after the event.\n",
-    );
-    say(b"\nOne session, K1 to K3, under M (controls 0, 1, 4 and 5).\n");
+    )?;
+    say(
+        &rt,
+        b"\nOne session, K1 to K3, under M (controls 0, 1, 4 and 5).\n",
+    )?;
     let mut page = [0u8; 4096];
-    let serving = show_k1(&mut page);
+    let serving = show_k1(&rt, &mut page)?;
     let mut page_sent = page;
     let mut page_left = page;
     let mut page_leave = page;
-    show_k2_and_k3(&mut page, serving);
-    show_call_sent(&mut page_sent, serving);
-    show_call_left(&mut page_left, serving);
-    show_leave(&mut page_leave, serving);
+    show_k2_and_k3(&rt, &mut page, serving)?;
+    show_call_sent(&rt, &mut page_sent, serving)?;
+    show_call_left(&rt, &mut page_left, serving)?;
+    show_leave(&rt, &mut page_leave, serving)?;
     let mut page_k12 = [0u8; 4096];
-    show_k12(&mut page_k12);
+    show_k12(&rt, &mut page_k12)
 }
