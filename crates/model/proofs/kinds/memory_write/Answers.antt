@@ -1,0 +1,11 @@
+-- `model::kinds::memory_write` meets its contract: its refusal, or what carries it out. Assumes nothing.
+use mathlib.Core.Path.{sym, ◌∙◌}
+use Rattle.events.specs.Events.{event_in_bounds, root_only, allowed}
+use Rattle.meaning.specs.Refusals.{refusal_of}
+use Rattle.model.proofs.ByRefusal.{refused-by}
+use Rattle.model.proofs.kinds.memory_write.Goals as goal
+
+pub returns-in-By : goal.returns-in-By
+unfolding refusal_of event_in_bounds root_only allowed
+returns-in-By c =
+    refused-by _ _ _ _ _ _ (sym (simp c.memory_write_in_bounds.ensures at c.guest_refusal-refusal.ensures) ∙ c.in-By.is) (c.refused.ensures _)
