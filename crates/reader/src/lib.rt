@@ -1,6 +1,5 @@
-// A reader that keeps the trace and its place in it. The borrow checker covers no function over a struct that holds a slice: each is proved
-// by hand, and covered functions of `trace` do the work. Callers that hold slice and place apart, as the loop of a replay does, go through
-// `body_from` and `readable_from`, which make a reader of the two: they need no walk.
+// A reader that keeps the trace and its place in it: thin functions over those of `trace`. Callers that hold slice and place apart, as the loop
+// of a replay does, go through `body_from` and `readable_from`, which make a reader of the two.
 #![tactic(auto)]
 
 ghost use Rattle.std.specs.Prelude.{◌≡◌};

@@ -1,4 +1,0 @@
-pub mod Held
-pub mod Lent
-pub mod Said
-pub mod Taken
