@@ -1,15 +1,15 @@
 -- How long a number, a line and a last line are. Assumes nothing.
 use native.Mathlib.Omega.{arith}
-use Prim.Native.Nat.{ℕ, zero, suc, ◌+◌, ◌*◌, ◌/◌, ◌^◌, ◌≤◌, ◌<◌}
-use mathlib.Core.Path.{◌≡◌, refl, subst}
+use Prim.Native.Nat.{ℕ, zero, suc, ◌/◌, ◌^◌, ◌≤◌, ◌<◌}
+use mathlib.Core.Path.{◌≡◌, refl}
 use mathlib.Core.Bool.{Bool, true, false}
-use mathlib.Core.List.{List, [], ◌∷◌, ◌++◌}
+use mathlib.Core.List.{[], ◌∷◌, ◌++◌}
 use lib.Dec.{ltb}
 use lib.ListN.{length, length-append}
-use borrow.Author.Tests.{ltb-true, ltb-false}
+use borrow.Author.Tests.{ltb-false}
 use Rattle.processor.specs.Logic.{if◌then◌else◌}
 use Rattle.events.specs.declared.answer.Numbers.{Numbers}
-use Rattle.text.specs.Decimal.{digit, digits, decimal, last_digits}
+use Rattle.text.specs.Decimal.{digit, digits, last_digits}
 use Rattle.text.specs.Lines.{field, line, done_line, bad_line}
 
 -- a number below a power of ten has no more digits than its exponent
