@@ -1,7 +1,6 @@
 -- Bodies, one of each kind and one of each way to be unreadable, as rows: the bytes, and what is read from them.
 use Rattle.std.specs.Prelude.{ℕ, ◌≡◌, true, false, List, [], ◌∷◌, ◌++◌, replicate}
 use Rattle.processor.specs.Controls.{no_controls}
-use Rattle.processor.specs.declared.controls.Controls.{Controls}
 use Rattle.events.specs.declared.event.Event.{Event}
 use Rattle.events.specs.declared.event.Event.TheVariants.{Entry, Request, MemoryRead, MemoryWrite, ToCr8, FromCr8, Rdmsr, Wrmsr, Boundary}
 use Rattle.trace.specs.Format.{body_readable, record_readable, body_at, next_place}
