@@ -1,0 +1,10 @@
+-- The bytes hold the controls already, so that the rest alone is stored.
+use Rattle.std.proofs.Common.{◌∙◌, arith}
+use Rattle.keeping.proofs.RoundTrip.{kept-status}
+use Rattle.replies.proofs.told.told_status.Goals as goal
+
+pub returns : goal.returns
+returns c = record {
+  numbers = c.numbers_of-numbers.ensures;
+  record_bytes = c.keep_status.ensures ∙ kept-status _ _ c.requires.0 (λ i. (c.slice_known-1.given i).fits) c.requires.1 _;
+}
