@@ -7,11 +7,11 @@ use mathlib.Core.Path.{◌≡◌, refl, sym, ◌∙◌, ap, ap₂}
 use mathlib.Core.Bool.{Bool, true, false, ◌&&◌, ◌||◌, beq}
 use mathlib.Core.List.{List}
 use lib.Bits.{bit_or, or_shr, or_mod}
-use lib.Dec.{T, eqb, ltb, lit<}
+use lib.Dec.{eqb, ltb, lit<}
 use lib.ListN.{length, length-set}
 use lib.Seq.{get_or-set_same, get_or-set_other}
-use borrow.Author.Tests.{eqb-true, eqb-false, eq-eqb, ne_eqb, lt-ltb, ltb-true, ltb-false, le-ltb}
-use Rattle.processor.specs.Logic.{if◌then◌else◌, bit, all_below}
+use borrow.Author.Tests.{eqb-true, eqb-false, lt-ltb, ltb-true, ltb-false, le-ltb}
+use Rattle.processor.specs.Logic.{bit, all_below}
 use Rattle.processor.specs.Offsets.{virr}
 use Rattle.processor.proofs.Tests.{below, same}
 use Rattle.page.specs.Page.{byte_at, word_at}

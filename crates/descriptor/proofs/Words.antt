@@ -8,7 +8,7 @@ use borrow.Author.Tests.{ne_eqb}
 use Rattle.processor.specs.Logic.{bit}
 use Rattle.page.specs.Page.{byte_at, word_at}
 use Rattle.registers.specs.declared.found.Found.TheVariants.{Vector}
-use Rattle.registers.specs.Vectors.{highest_of, found_at, Places}
+use Rattle.registers.specs.Vectors.{highest_of, Places}
 use Rattle.registers.proofs.Words.{word-bit}
 use Rattle.descriptor.specs.Descriptor.{posted}
 

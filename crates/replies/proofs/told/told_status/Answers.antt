@@ -1,5 +1,5 @@
 -- The bytes hold the controls already, so that the rest alone is stored.
-use Rattle.std.proofs.Common.{◌∙◌, arith}
+use Rattle.std.proofs.Common.{◌∙◌}
 use Rattle.keeping.proofs.RoundTrip.{kept-status}
 use Rattle.replies.proofs.told.told_status.Goals as goal
 
