@@ -16,7 +16,6 @@ use Rattle.page.specs.Page.{byte_at, word_at, long_at, word_within, long_within,
 use Rattle.stores.specs.Stores.{set_half, set_word, set_long}
 use Rattle.meaning.specs.Input.{Input, given, external, leaves}
 use Rattle.meaning.specs.After.{After}
-use Rattle.meaning.specs.Refusals.{refusal_of}
 use Rattle.meaning.specs.External.{descriptor_by}
 use Rattle.meaning.specs.Step.{step_by, step, descriptor_after}
 use Rattle.meaning.specs.Run.{Held, start, step_of, held_after, after}

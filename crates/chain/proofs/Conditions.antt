@@ -17,14 +17,13 @@ use Rattle.meaning.specs.Run.{Held, start, after}
 use Rattle.conditions.specs.History.{all_on, serving}
 use Rattle.conditions.specs.Condition3.{Highest, Recognition, Served, Rising, Retires, Keeps, AtMost15, Delivers16}
 use Rattle.descriptor.specs.Descriptor.{descriptor_fits}
-use Rattle.conditions.specs.Condition1.{ExternalAnswered}
 use Rattle.conditions.proofs.Condition1.{nothing-changes, external-answered}
 use Rattle.conditions.proofs.Invariant.{run-inv, start-inv}
 use Rattle.conditions.proofs.Theorems.{rvi-svi-highest, recognised-exactly, in-service-exactly, classes-rise, eoi-retires-latest, nothing-else-retires, at-most-15, none-below-16}
 use Rattle.layout.specs.RecordBytes.{record_readable, record_of}
 use Rattle.keeping.specs.KeptBytes.{record_bytes, kept}
 use Rattle.layout.specs.EventBytes.{event_readable, event_of}
-use Rattle.replies.specs.Replies.{LentReply, refused, refused_lent, replied, model_reply, gg_step, external_reply, gg_external_interrupt, leave_reply, gg_leave}
+use Rattle.replies.specs.Replies.{refused, refused_lent, replied, model_reply, gg_step, external_reply, gg_external_interrupt, leave_reply, gg_leave}
 use Rattle.calls.specs.Calls.{found_numbers, gg_highest}
 use Rattle.chain.specs.Chain.{Call, begin, chain, inputs, AllBytes, held_of, Tells, vector, none, Asked, Untouched, UntouchedLent}
 use Rattle.chain.proofs.Chain.{chain-is-run}

@@ -2,8 +2,12 @@
 use Rattle.std.specs.Prelude.{ℕ, Bool, ◌&&◌, List, [], ◌∷◌, eqb, replicate}
 use Rattle.processor.specs.Rows.{same_bytes, word, with_words}
 use Rattle.meaning.specs.Run.{zero_page}
-use Rattle.meaning.specs.Bench.{tells}
-use Rattle.calls.specs.Calls.{gg_highest, FreshReply, gg_fresh}
+use Rattle.events.specs.declared.answer.Numbers.{Numbers}
+use Rattle.calls.specs.Calls.{gg_highest, gg_fresh}
+
+-- the numbers are these three
+abbrev tells : Numbers → ℕ → ℕ → ℕ → Bool
+tells n answer first second = eqb n.answer answer && eqb n.first first && eqb n.second second
 
 -- 71 requested, 60 in service; vector 0 alone requested
 abbrev two_page : List ℕ

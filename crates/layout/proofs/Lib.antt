@@ -1,2 +1,3 @@
 pub mod EventRows
 pub mod Fresh
+pub mod RecordRows

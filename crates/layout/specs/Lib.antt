@@ -1,3 +1,4 @@
 pub mod EventBytes
 pub mod EventRows
 pub mod RecordBytes
+pub mod RecordRows
