@@ -1,2 +1,3 @@
 pub mod Searches
 pub mod VectorRows
+pub mod SearchRows

@@ -2,3 +2,4 @@ pub mod Fields
 pub mod Format
 pub mod Records
 pub mod RecordRows
+pub mod BodyRows
