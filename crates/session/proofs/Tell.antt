@@ -24,7 +24,7 @@ use Rattle.conditions.proofs.Laws.{controls-after}
 use Rattle.trace.specs.Fields.{four_at}
 use Rattle.trace.specs.Format.{kind_of}
 use Rattle.trace.specs.Records.{memory_read_of, memory_write_of, to_cr8_of, wrmsr_of, boundary_of, event_of}
-use Rattle.recorded.specs.Session.{Session, answer_to, session_after}
+use Rattle.recorded.specs.Session.{answer_to, session_after}
 use Rattle.session.specs.declared.State.{State}
 use Rattle.session.specs.declared.Told.{Told}
 use Rattle.session.specs.Told.{session_of, ControlsTold, EntryTold, Tells}
