@@ -1,22 +1,22 @@
 -- A replay under way: it begins, goes on by a record, and is over. Assumes nothing.
 use native.Mathlib.Omega.{arith}
 use native.Mathlib.Numerals.{add-one}
-use Prim.Native.Nat.{ℕ, suc, ◌+◌, ◌*◌, ◌≤◌, ◌<◌}
-use mathlib.Core.Path.{◌≡◌, refl, sym, ap, ◌∙◌}
-use mathlib.Core.Bool.{true, false}
+use Prim.Native.Nat.{ℕ, suc, ◌+◌}
+use mathlib.Core.Path.{◌≡◌, sym, ap, ◌∙◌}
+use mathlib.Core.Bool.{true}
 use mathlib.Core.List.{List, ◌++◌}
 use lib.ListN.{length, length-append}
-use Rattle.trace.specs.Format.{body_at, next_place}
+use Rattle.trace.specs.Format.{body_at}
 use Rattle.text.specs.Lines.{line}
-use Rattle.text.specs.Written.{written, Writes}
+use Rattle.text.specs.Written.{written}
 use Rattle.text.proofs.Writing.{written-append}
-use Rattle.recorded.specs.Session.{Session, begin, answer_to, session_after}
+use Rattle.recorded.specs.Session.{Session, begin, answer_to}
 use Rattle.recorded.specs.Replay.{bodies, text_from}
 use Rattle.recorded.proofs.Steps.{at-record, counts}
 use Rattle.session.specs.Told.{session_of}
 use Rattle.playback.specs.declared.turns.Turn.{Turn}
-use Rattle.playback.specs.Turns.{goes_on, last_of, Starts, Ready, Turned, text_left, Going, Ended}
-use Rattle.playback.proofs.On.{On, goes-on, Next, next-inside, last-left, none_left, last-short}
+use Rattle.playback.specs.Turns.{goes_on, Starts, Turned, text_left, Going}
+use Rattle.playback.proofs.On.{On, goes-on, next-inside}
 
 -- a page beside what is held before the first record
 abbrev pub fresh_on : List ℕ → Session

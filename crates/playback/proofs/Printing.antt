@@ -1,21 +1,18 @@
 -- What is printed of a trace and of what is no trace, and what a replay then answers. Assumes nothing.
 use native.Mathlib.Omega.{arith}
-use Prim.Native.Nat.{ℕ, ◌+◌, ◌*◌, ◌≤◌, ◌<◌}
+use Prim.Native.Nat.{ℕ, ◌≤◌, ◌<◌}
 use mathlib.Core.Path.{◌≡◌, refl, sym, ap, ◌∙◌}
 use mathlib.Core.Bool.{Bool, true, false}
 use lib.Dec.{leb}
 use mathlib.Core.List.{List}
 use lib.ListN.{length, drop, length-append}
-use borrow.Author.Tests.{le-leb, lt-leb, leb-true}
-use Rattle.processor.specs.Logic.{if◌then◌else◌}
-use Rattle.trace.specs.Format.{version_fits, size_fits}
+use borrow.Author.Tests.{le-leb, lt-leb}
 use Rattle.text.specs.Lines.{bad_line}
 use Rattle.text.specs.Written.{written, Writes}
 use Rattle.text.proofs.Lengths.{bad-short}
 use Rattle.text.proofs.Writing.{written_start}
 use Rattle.meaning.specs.Run.{zero_page}
-use Rattle.recorded.specs.Session.{begin}
-use Rattle.recorded.specs.Replay.{bodies, text_from, is_trace, replay_text, replayed}
+use Rattle.recorded.specs.Replay.{is_trace, replay_text, replayed}
 use Rattle.playback.specs.declared.turns.Turn.{Turn}
 use Rattle.playback.specs.declared.Replayed.{Replayed}
 use Rattle.playback.specs.Turns.{last_of, text_left, Ended}
