@@ -9,7 +9,7 @@ use Rattle.stores.specs.Stores.{set_half, set_word, set_long}
 use Rattle.sizes.specs.Sizes.{read_at, store_at}
 use Rattle.priorities.specs.Priorities.{ppr}
 use Rattle.table.specs.Table.{open_offset}
-use Rattle.table.specs.Map.{row_at}
+use Rattle.rows.specs.Map.{row_at}
 use Rattle.registers.specs.Vectors.{highest_of}
 use Rattle.descriptor.specs.Descriptor.{posted, places_below, raised_by, joined_below, cleared_below, cleared}
 use Rattle.rows.specs.DefinitionRows.{definition_rows}

@@ -22,7 +22,7 @@ use Rattle.meaning.specs.External.{posted_record, posting, external_interrupt, d
 use Rattle.meaning.specs.Leave.{left}
 use Rattle.meaning.specs.Refusals.{refusal_of}
 use Rattle.meaning.specs.Step.{event_out, carried_out, step_by, step, descriptor_after}
-use Rattle.meaning.specs.Bench.{row_holds, rows_hold, interrupts_hold}
+use Rattle.rows.specs.RowBench.{row_holds, rows_hold, interrupts_hold}
 use Rattle.rows.specs.RuleRows.{rule_rows}
 use Rattle.rows.specs.InterruptRows.{external_rows}
 

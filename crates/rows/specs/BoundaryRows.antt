@@ -1,12 +1,10 @@
 -- Document 01, "Boundary", as rows.
-use Prim.Native.Nat.{ℕ}
-use mathlib.Core.Bool.{Bool, true, false, not}
-use mathlib.Core.List.{List, [], ◌∷◌, ◌++◌}
+use Rattle.std.specs.Prelude.{ℕ, Bool, true, false, not, List, [], ◌∷◌, ◌++◌}
 use Rattle.processor.specs.Rows.{Word, word}
 use Rattle.events.specs.declared.event.Event.{Event}
 use Rattle.events.specs.declared.event.Event.TheVariants.{Boundary}
 use Rattle.meaning.specs.Boundary.{matters}
-use Rattle.meaning.specs.Bench.{Row, quiet, exit, delivered, boundary_open}
+use Rattle.rows.specs.RowBench.{Row, quiet, exit, delivered}
 use Rattle.rows.specs.RowStart.{marked, busy, guest, root, of_event, keeps}
 
 -- 31 in service; 52 and 71 requested; VPPR 30 with other bytes above it

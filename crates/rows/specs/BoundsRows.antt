@@ -1,17 +1,14 @@
 -- Document 01, "Events" and "What comes back", as rows: the bounds of every field, the mode that an event belongs to, and the number and
 -- values of each answer.
-use Prim.Native.Nat.{ℕ}
-use mathlib.Core.Bool.{Bool, true, false, not, ◌&&◌}
-use mathlib.Core.List.{List, [], ◌∷◌, ◌++◌}
-use lib.Dec.{eqb}
-use Rattle.processor.specs.Rows.{all_hold, at_each, at_none, notified, flagged}
+use Rattle.std.specs.Prelude.{ℕ, Bool, true, false, not, ◌&&◌, List, [], ◌∷◌, ◌++◌}
+use Rattle.processor.specs.Rows.{at_each, at_none, notified, flagged}
 use Rattle.processor.specs.declared.controls.Controls.{Controls}
 use Rattle.processor.specs.declared.controls.Record.{Record}
 use Rattle.events.specs.declared.event.Event.{Event}
 use Rattle.events.specs.declared.event.Event.TheVariants.{Entry, Request, MemoryRead, MemoryWrite, ToCr8, FromCr8, Rdmsr, Wrmsr, Boundary}
 use Rattle.events.specs.declared.answer.Answer.TheVariants.{Refused, Redirected, Passthrough, Fault, Exit, Delivered, Quiet}
 use Rattle.events.specs.Answers.{numbers_of}
-use Rattle.meaning.specs.Bench.{tells}
+use Rattle.rows.specs.RowBench.{tells}
 use Rattle.events.specs.Events.{offset_in_bounds, vector_in_bounds, size_in_bounds, value_in_bounds, cr8_in_bounds, activity_in_bounds, event_in_bounds, in_bounds, root_only, allowed}
 
 -- offset 0 to 4095; vector 0 to 255; sizes 1, 2, 4, 8; a CR8 value and a register 0 to 15; activity 0 to 3

@@ -1,8 +1,5 @@
 -- Document 01, "Registers on the page": little-endian, as rows over nine different bytes.
-use Prim.Native.Nat.{ℕ}
-use mathlib.Core.Bool.{Bool}
-use mathlib.Core.List.{List, [], ◌∷◌}
-use lib.Dec.{eqb}
+use Rattle.std.specs.Prelude.{Bool, List, [], ◌∷◌, eqb}
 use Rattle.processor.specs.Rows.{nine}
 use Rattle.page.specs.Page.{byte_at, half_at, word_at, long_at, word_within, long_within}
 

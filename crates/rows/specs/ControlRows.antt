@@ -1,8 +1,6 @@
 -- Document 01, "Processor record and controls", and the controls of E1, as rows.
-use Prim.Native.Nat.{ℕ}
-use mathlib.Core.Bool.{Bool, true, false, not, ◌&&◌, beq}
-use mathlib.Core.List.{List, [], ◌∷◌, ◌++◌}
-use lib.Dec.{eqb, ltb}
+use Rattle.std.specs.Prelude.{ℕ, Bool, true, false, not, ◌&&◌, List, [], ◌∷◌, ◌++◌, eqb, ltb}
+use Rattle.std.specs.Bool.{beq}
 use Rattle.processor.specs.Logic.{all_below}
 use Rattle.processor.specs.Rows.{at_each, at_none, controls, flagged, exiting}
 use Rattle.processor.specs.Controls.{use_tpr_shadow, virtualize_apic_accesses, virtualize_x2apic_mode, apic_register_virtualization, virtual_delivery, external_interrupt_exiting, interrupt_window_exiting, cr8_load_exiting, cr8_store_exiting, process_posted_interrupts, acknowledge_on_exit, flags_in_bounds, eoi_exit, no_controls, fresh, with_guest, with_rvi, with_svi, with_recognised, with_controls, outside}

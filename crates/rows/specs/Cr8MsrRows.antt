@@ -1,14 +1,12 @@
 -- Document 01, "CR8 and MSR", as rows.
-use Prim.Native.Nat.{ℕ}
-use mathlib.Core.Bool.{Bool, true, false}
-use mathlib.Core.List.{List, [], ◌∷◌, ◌++◌}
+use Rattle.std.specs.Prelude.{ℕ, true, false, List, [], ◌∷◌, ◌++◌}
 use Rattle.processor.specs.Rows.{Word, word, exiting}
 use Rattle.processor.specs.declared.controls.Controls.{Controls}
 use Rattle.processor.specs.declared.controls.Record.{Record}
 use Rattle.events.specs.declared.answer.Numbers.{Numbers}
 use Rattle.events.specs.declared.event.Event.{Event}
 use Rattle.events.specs.declared.event.Event.TheVariants.{ToCr8, FromCr8, Rdmsr, Wrmsr}
-use Rattle.meaning.specs.Bench.{Row, quiet, exit}
+use Rattle.rows.specs.RowBench.{Row, quiet, exit}
 use Rattle.rows.specs.RowStart.{marked, busy, guest, root, redirected, passthrough, fault, of_event, keeps}
 
 -- eight different bytes at 080, at 0B0, at 0D0 and at FF0; 31 in service

@@ -1,7 +1,6 @@
 -- All rows of one definition by itself, section by section of document 01. Those of memory accesses, CR8 and MSR, and the entry checks
 -- stand beside their definitions.
-use mathlib.Core.Bool.{Bool}
-use mathlib.Core.List.{List, ◌++◌}
+use Rattle.std.specs.Prelude.{Bool, List, ◌++◌}
 use Rattle.rows.specs.ControlRows.{control_rows}
 use Rattle.rows.specs.BoundsRows.{bounds_rows}
 use Rattle.rows.specs.ByteRows.{byte_rows}

@@ -1,9 +1,6 @@
 -- Document 02, E1, as rows: the descriptor, which vectors are posted in it, and what becomes of them.
-use Prim.Native.Nat.{ℕ}
-use mathlib.Core.Bool.{Bool, true, false, ◌&&◌, beq}
-use mathlib.Core.List.{List, [], ◌∷◌, ◌++◌}
-use lib.Dec.{eqb}
-use lib.ListN.{replicate, set}
+use Rattle.std.specs.Prelude.{ℕ, Bool, ◌&&◌, List, [], ◌∷◌, ◌++◌, eqb, replicate, set}
+use Rattle.std.specs.Bool.{beq}
 use Rattle.processor.specs.Logic.{all_below}
 use Rattle.processor.specs.Rows.{at_each, at_none, same_bytes, word, with_words}
 use Rattle.registers.specs.declared.found.Found.{Found}

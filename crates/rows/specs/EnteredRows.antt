@@ -1,13 +1,11 @@
 -- Document 01, "Entry and request", with E2 of document 02, as rows.
-use Prim.Native.Nat.{ℕ}
-use mathlib.Core.Bool.{Bool, true, false}
-use mathlib.Core.List.{List, [], ◌∷◌, ◌++◌}
+use Rattle.std.specs.Prelude.{ℕ, Bool, true, false, List, [], ◌∷◌, ◌++◌}
 use Rattle.processor.specs.Rows.{Word, word}
 use Rattle.processor.specs.declared.controls.Controls.{Controls}
 use Rattle.processor.specs.declared.controls.Record.{Record}
 use Rattle.events.specs.declared.answer.Numbers.{Numbers}
 use Rattle.events.specs.declared.event.Event.TheVariants.{Entry, Request}
-use Rattle.meaning.specs.Bench.{Row, quiet, exit}
+use Rattle.rows.specs.RowBench.{Row, quiet, exit}
 use Rattle.rows.specs.RowStart.{marked, busy, guest, root, of_event}
 
 -- VTPR's byte and VPPR's, with 31 in service and 52 requested

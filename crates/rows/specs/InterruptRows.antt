@@ -1,20 +1,18 @@
 -- Document 02, E1, as rows of an external interrupt with its descriptor: the order of the refusals, and a posting over a marked page.
-use Prim.Native.Nat.{ℕ}
-use mathlib.Core.Bool.{Bool, true, false}
-use mathlib.Core.List.{List, [], ◌∷◌, ◌++◌}
-use lib.ListN.{replicate, set}
+use Rattle.std.specs.Prelude.{ℕ, true, false, List, [], ◌∷◌, ◌++◌, replicate, set}
 use Rattle.processor.specs.Rows.{Word, word, notified}
 use Rattle.processor.specs.declared.controls.Controls.{Controls}
 use Rattle.processor.specs.declared.controls.Record.{Record}
 use Rattle.events.specs.declared.answer.Numbers.{Numbers}
 use Rattle.events.specs.Answers.{numbers}
-use Rattle.meaning.specs.Bench.{unposted, two_posted, Interrupt, changed, quiet, exit, refused}
+use Rattle.meaning.specs.Bench.{unposted, two_posted}
+use Rattle.rows.specs.RowBench.{Interrupt, quiet, exit, refused}
 use Rattle.rows.specs.RowStart.{marked, guest, root}
 use Rattle.rows.specs.RefusedRows.{short_page, long_page}
 
 abbrev on : List ℕ → Record → List ℕ → ℕ → Numbers → Record → List Word → List ℕ → Interrupt
 on p r d vector a state ws left =
-    record { begin = record { page = p; state = r }; descriptor = d; vector = vector; answer = a; state = state; page = changed ws; left = left }
+    record { begin = record { page = p; state = r }; descriptor = d; vector = vector; answer = a; state = state; changed = ws; left = left }
 
 -- nothing but the answer comes of it
 abbrev keeps : List ℕ → Record → List ℕ → ℕ → Numbers → Interrupt

@@ -1,3 +1,5 @@
+pub mod RowBench
+pub mod Map
 pub mod ControlRows
 pub mod BoundsRows
 pub mod ByteRows

@@ -1,14 +1,10 @@
 -- Document 01, "Memory accesses", as rows: which offsets are open, register by register from 000 to 3F0, in each of the four settings.
-use Prim.Native.Nat.{ℕ, ◌+◌}
-use mathlib.Core.Bool.{Bool, true, false, not, ◌&&◌, beq}
-use mathlib.Core.List.{List, [], ◌∷◌, ◌++◌}
-use lib.Dec.{eqb, ltb}
+use Rattle.std.specs.Prelude.{ℕ, ◌+◌, Bool, true, false, not, ◌&&◌, List, [], ◌∷◌, ◌++◌, eqb, ltb}
+use Rattle.std.specs.Bool.{beq}
 use Rattle.processor.specs.Logic.{all_below, member}
 use Rattle.processor.specs.Rows.{at_none, flagged}
 use Rattle.table.specs.Table.{open_offset}
-use Rattle.table.specs.declared.offsets.Row.{Row}
-use Rattle.table.specs.declared.offsets.Row.TheVariants.{Register, None}
-use Rattle.table.specs.Map.{row_at}
+use Rattle.rows.specs.Map.{MapRow, held, none, row_at}
 
 -- a register's sixteen bytes: the first four are open where its mark is 1, the others never
 abbrev register_open : ℕ → Bool → ℕ → ℕ → Bool
@@ -60,10 +56,10 @@ open_rows =
     at_none (open_offset (flagged 0x03) false) past ∷ at_none (open_offset (flagged 0x03) true) past ∷ []
 
 -- a row of the map: its offset, and its marks for read, write, VID on and VID off with control 3 off; no row where the offset is 0
-abbrev maps : Row → ℕ → Bool → Bool → Bool → Bool → Bool
-maps (Register r) offset read write delivery tpr =
+abbrev maps : MapRow → ℕ → Bool → Bool → Bool → Bool → Bool
+maps (held r) offset read write delivery tpr =
     eqb r.offset offset && beq r.read read && beq r.write write && beq r.delivery delivery && beq r.tpr tpr
-maps None offset read write delivery tpr = eqb offset 0
+maps none offset read write delivery tpr = eqb offset 0
 
 -- the first rows, the ends of each run, VICR_LO and VICR_HI, the last row, and none behind it
 abbrev pub map_rows : List Bool

@@ -1,8 +1,5 @@
 -- Document 01, "The five procedures" and "Boundary", as rows: what is decided from numbers alone.
-use Prim.Native.Nat.{ℕ}
-use mathlib.Core.Bool.{Bool, true, false, not, ◌&&◌}
-use mathlib.Core.List.{List, [], ◌∷◌, ◌++◌}
-use lib.Dec.{eqb}
+use Rattle.std.specs.Prelude.{Bool, true, false, not, List, [], ◌∷◌, ◌++◌, eqb}
 use Rattle.processor.specs.Rows.{at_each, at_none, controls, flagged}
 use Rattle.processor.specs.Logic.{larger}
 use Rattle.priorities.specs.Priorities.{class, low_cleared, ppr, below_threshold, evaluated, open_boundary}

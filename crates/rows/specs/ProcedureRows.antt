@@ -1,19 +1,18 @@
 -- Document 01, "The five procedures", as rows: PPR virtualization alone, and EOI virtualization by a write at 0B0.
-use Prim.Native.Nat.{ℕ}
-use mathlib.Core.Bool.{Bool, true, false}
-use mathlib.Core.List.{List, [], ◌∷◌, ◌++◌}
+use Rattle.std.specs.Prelude.{ℕ, true, false, List, [], ◌∷◌, ◌++◌}
 use Rattle.processor.specs.Rows.{Word, word, exiting}
 use Rattle.processor.specs.declared.controls.Controls.{Controls}
 use Rattle.processor.specs.declared.controls.Record.{Record}
 use Rattle.events.specs.declared.answer.Numbers.{Numbers}
-use Rattle.meaning.specs.Bench.{Row, ppr_alone, changed, quiet, exit, write_eoi}
+use Rattle.meaning.specs.Bench.{ppr_alone}
+use Rattle.rows.specs.RowBench.{Row, quiet, exit, write_eoi}
 use Rattle.rows.specs.RowStart.{marked, busy, guest, root, of_event}
 
 -- PPR virtualization alone: VTPR, SVI and the VPPR that comes of them, all 32 bits of it
 abbrev ppr : ℕ → ℕ → ℕ → Row
 ppr vtpr svi vppr =
     let r = guest 0x95 svi true (busy 0x3b 5) in
-    record { begin = record { page = marked (word 0x080 vtpr ∷ []); state = r }; deed = ppr_alone; answers = []; state = r; page = changed (word 0x0a0 vppr ∷ []) }
+    record { begin = record { page = marked (word 0x080 vtpr ∷ []); state = r }; deed = ppr_alone; answers = []; state = r; changed = (word 0x0a0 vppr ∷ []) }
 
 abbrev ppr_rows : List Row
 ppr_rows =

@@ -1,11 +1,10 @@
 -- Document 01, "Memory accesses", as rows: passthrough, exit 44 with its qualification, and what a redirected read gives.
-use Prim.Native.Nat.{ℕ}
-use mathlib.Core.Bool.{Bool, true, false}
-use mathlib.Core.List.{List, [], ◌∷◌, ◌++◌}
-use Rattle.processor.specs.Rows.{word}
+use Rattle.std.specs.Prelude.{ℕ, true, false, List, [], ◌∷◌, ◌++◌}
+use Rattle.processor.specs.Rows.{word, controls}
 use Rattle.events.specs.declared.event.Event.{Event}
 use Rattle.events.specs.declared.event.Event.TheVariants.{MemoryRead, MemoryWrite}
-use Rattle.meaning.specs.Bench.{Row, exit}
+use Rattle.meaning.specs.Run.{zero_page}
+use Rattle.rows.specs.RowBench.{Row, exit}
 use Rattle.rows.specs.RowStart.{marked, busy, guest, root, redirected, passthrough, of_event, keeps}
 
 -- four different bytes at 0D0, at 0B0 and at 080
@@ -54,5 +53,11 @@ exit_rows =
     -- shadow off
     exits44 0x02 (MemoryRead 0x080 4 false false) 0x0080 ∷ exits44 0x02 (MemoryWrite 0x080 4 false false 0x11) 0x1080 ∷ []
 
+-- K10 on a page that is zero throughout
+abbrev zero_rows : List Row
+zero_rows =
+    keeps zero_page (guest 0 0 false (controls 0x3b 0)) (MemoryRead 0x083 1 false false) (redirected 0) ∷
+    of_event zero_page (guest 0 0 false (controls 0x33 0)) (MemoryRead 0x083 1 false false) (exit 44 0x083) (root 0 0 false (controls 0x33 0)) [] ∷ []
+
 abbrev pub access_rows : List Row
-access_rows = read_rows ++ pass_rows ++ exit_rows
+access_rows = read_rows ++ pass_rows ++ exit_rows ++ zero_rows

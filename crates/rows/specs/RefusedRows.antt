@@ -1,14 +1,11 @@
 -- Document 01, "What comes back", as rows: which refusal, in the order 1, 2, 3, 4, with page and record unchanged.
-use Prim.Native.Nat.{ℕ}
-use mathlib.Core.Bool.{Bool, true, false}
-use mathlib.Core.List.{List, [], ◌∷◌, ◌++◌}
-use lib.ListN.{replicate}
+use Rattle.std.specs.Prelude.{ℕ, true, false, List, [], ◌∷◌, ◌++◌, replicate}
 use Rattle.processor.specs.Rows.{word}
 use Rattle.processor.specs.declared.controls.Record.{Record}
-use Rattle.events.specs.declared.event.Event.{Event}
 use Rattle.events.specs.declared.event.Event.TheVariants.{Entry, Request, MemoryRead, MemoryWrite, ToCr8, FromCr8, Rdmsr, Wrmsr, Boundary}
 use Rattle.meaning.specs.Input.{Input, given, leaves}
-use Rattle.meaning.specs.Bench.{Row, refused, quiet, boundary_open}
+use Rattle.meaning.specs.Bench.{boundary_open}
+use Rattle.rows.specs.RowBench.{Row, refused, quiet}
 use Rattle.rows.specs.RowStart.{marked, busy, guest, root, of}
 
 -- pages of other lengths, one with VTPR, and a page at VTPR 4F

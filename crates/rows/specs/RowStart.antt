@@ -1,17 +1,15 @@
 -- What the rows start from, and how a row of one input is written: the page, the record and the input; then the answer, the record, and the
 -- words of the page that change. Every other byte of the page is as before.
-use Prim.Native.Nat.{ℕ}
-use mathlib.Core.Bool.{Bool, true, false}
-use mathlib.Core.List.{List, [], ◌∷◌, ◌++◌}
-use lib.ListN.{replicate}
-use Rattle.processor.specs.Rows.{Word, word, with_words}
+use Rattle.std.specs.Prelude.{ℕ, Bool, true, false, List, [], ◌∷◌, ◌++◌, replicate}
+use Rattle.processor.specs.Rows.{Word, with_words}
 use Rattle.processor.specs.declared.controls.Controls.{Controls}
 use Rattle.processor.specs.declared.controls.Record.{Record}
 use Rattle.events.specs.declared.answer.Numbers.{Numbers}
 use Rattle.events.specs.Answers.{numbers}
 use Rattle.events.specs.declared.event.Event.{Event}
 use Rattle.meaning.specs.Input.{Input, given}
-use Rattle.meaning.specs.Bench.{Row, inputs, changed, state_of}
+use Rattle.meaning.specs.Bench.{inputs}
+use Rattle.rows.specs.RowBench.{Row, state_of}
 
 -- eight words of 0, sixteen bytes apart, the bytes between them marked A5
 abbrev empty_word : List ℕ
@@ -51,7 +49,7 @@ fault = numbers 3 0 0
 
 -- a row of one input
 abbrev pub of : List ℕ → Record → Input → Numbers → Record → List Word → Row
-of p r i a state ws = record { begin = record { page = p; state = r }; deed = inputs (i ∷ []); answers = a ∷ []; state = state; page = changed ws }
+of p r i a state ws = record { begin = record { page = p; state = r }; deed = inputs (i ∷ []); answers = a ∷ []; state = state; changed = ws }
 
 -- a row of one event
 abbrev pub of_event : List ℕ → Record → Event → Numbers → Record → List Word → Row

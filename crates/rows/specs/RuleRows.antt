@@ -1,6 +1,6 @@
 -- All rows of one input, section by section of document 01.
-use mathlib.Core.List.{List, ◌++◌}
-use Rattle.meaning.specs.Bench.{Row}
+use Rattle.std.specs.Prelude.{List, ◌++◌}
+use Rattle.rows.specs.RowBench.{Row}
 use Rattle.rows.specs.RefusedRows.{refusal_rows}
 use Rattle.rows.specs.EnteredRows.{entry_rows}
 use Rattle.rows.specs.ReadRows.{access_rows}

@@ -1,10 +1,6 @@
 -- Document 01, "Registers on the page" and "Memory accesses", as rows: bytes stored little-endian, and the bytes of an access by its size,
 -- all of them different.
-use Prim.Native.Nat.{ℕ}
-use mathlib.Core.Bool.{Bool}
-use mathlib.Core.List.{List, [], ◌∷◌, ◌++◌}
-use lib.Dec.{eqb}
-use lib.ListN.{replicate}
+use Rattle.std.specs.Prelude.{ℕ, Bool, List, [], ◌∷◌, ◌++◌, eqb, replicate}
 use Rattle.processor.specs.Rows.{same_bytes, nine}
 use Rattle.stores.specs.Stores.{set_byte, set_half, set_word, set_long}
 use Rattle.sizes.specs.Sizes.{read_at, store_at}

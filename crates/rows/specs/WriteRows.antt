@@ -1,12 +1,10 @@
 -- Document 01, "Memory accesses", as rows: a redirected write stores its bytes, then by offset.
-use Prim.Native.Nat.{ℕ}
-use mathlib.Core.Bool.{Bool, true, false}
-use mathlib.Core.List.{List, [], ◌∷◌, ◌++◌}
+use Rattle.std.specs.Prelude.{ℕ, Bool, true, false, List, [], ◌∷◌, ◌++◌}
 use Rattle.processor.specs.Rows.{Word, word}
 use Rattle.processor.specs.declared.controls.Record.{Record}
 use Rattle.events.specs.declared.answer.Numbers.{Numbers}
 use Rattle.events.specs.declared.event.Event.TheVariants.{MemoryWrite}
-use Rattle.meaning.specs.Bench.{Row, quiet, exit}
+use Rattle.rows.specs.RowBench.{Row, quiet, exit}
 use Rattle.rows.specs.RowStart.{marked, busy, guest, root, of_event}
 
 -- a write by a guest with RVI 52, SVI 31 and an interrupt recognised: the words of the page, the flags and the threshold; offset, size and
