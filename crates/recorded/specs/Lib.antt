@@ -2,3 +2,4 @@ pub mod Session
 pub mod Replay
 pub mod Theorems
 pub mod Example
+pub mod ProgramText

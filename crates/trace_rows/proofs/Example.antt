@@ -21,11 +21,12 @@ use Rattle.trace.specs.Records.{controls_of, memory_read_of, to_cr8_of, boundary
 use Rattle.text.specs.Decimal.{digits}
 use Rattle.text.specs.Lines.{line, done_line, bad_line}
 use Rattle.recorded.specs.Session.{answer_to, session_after}
-use Rattle.recorded.specs.Replay.{bodies, ends_bad, last_line, text_from, is_trace, replay_text, replayed, programText}
+use Rattle.recorded.specs.Replay.{bodies, ends_bad, last_line, text_from, is_trace, replay_text, replayed}
+use Rattle.recorded.specs.ProgramText.{program_text}
 use Rattle.trace_rows.specs.Example.{Examples}
 
 pub examples-print : Examples
-unfolding larger event_in_bounds root_only allowed failing_check ppr set_word is_set put_vector highest_of highest ppr_virtualization evaluation evaluated_quiet requested_page requested_record entered entry request open_offset memory_access read_qualification read_by memory_read read_msr delivered_page delivered_record delivery boundary_at boundary refusal_of event_out carried_out step_by step two_at four_at eight_at cut_short body_at next_place length_of_kind flags_used body_readable record_readable controls_of memory_read_of to_cr8_of boundary_of event_of digits line done_line bad_line answer_to session_after bodies ends_bad last_line text_from is_trace replay_text replayed programText
+unfolding larger event_in_bounds root_only allowed failing_check ppr set_word is_set put_vector highest_of highest ppr_virtualization evaluation evaluated_quiet requested_page requested_record entered entry request open_offset memory_access read_qualification read_by memory_read read_msr delivered_page delivered_record delivery boundary_at boundary refusal_of event_out carried_out step_by step two_at four_at eight_at cut_short body_at next_place length_of_kind flags_used body_readable record_readable controls_of memory_read_of to_cr8_of boundary_of event_of digits line done_line bad_line answer_to session_after bodies ends_bad last_line text_from is_trace replay_text replayed program_text
 examples-print =
     record {
       example = refl;

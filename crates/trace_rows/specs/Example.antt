@@ -1,12 +1,9 @@
 -- Document 02, E5: "Controls 0031H, request 60H, entry, boundary with IF prints exactly" five lines; the shortest and the longest inputs; the
 -- stated number; records that can't be read; and the controls for later entries.
-use Prim.Native.Nat.{ℕ, ◌+◌}
-use mathlib.Core.Path.{◌≡◌}
-use mathlib.Core.Bool.{false}
-use mathlib.Core.List.{List, [], ◌∷◌, ◌++◌}
-use lib.ListN.{replicate}
+use Rattle.std.specs.Prelude.{ℕ, ◌+◌, ◌≡◌, false, List, [], ◌∷◌, ◌++◌, replicate}
 use Rattle.recorded.specs.Session.{begin, session_end}
-use Rattle.recorded.specs.Replay.{bodies, ends_bad, text_from, replay_text, replayed, programLimit, programText}
+use Rattle.recorded.specs.Replay.{bodies, ends_bad, text_from, replay_text, replayed}
+use Rattle.recorded.specs.ProgramText.{program_limit, program_text}
 
 -- records, each with its length: controls with these flags; request; entry; boundary with IF
 abbrev controls : ℕ → List ℕ
@@ -97,8 +94,8 @@ pub record Examples : Type 0 where
   -- both numbers of an exit: "3 4 44 160" for a read at 0A0
   pub exits44 : replay_text (1 ∷ (controls 0x33 ++ entry ++ (0 ∷ 5 ∷ 2 ∷ 0x00 ∷ 0xa0 ∷ 4 ∷ 0 ∷ []))) 10000 ≡ two_lines ++ (0x33 ∷ 0x20 ∷ 0x34 ∷ 0x20 ∷ 0x34 ∷ 0x34 ∷ 0x20 ∷ 0x31 ∷ 0x36 ∷ 0x30 ∷ 0x0a ∷ []) ++ done 3
   -- the program stops after 10,000 records
-  pub limit : programLimit ≡ 10000
-  pub program : programText example_trace ≡ example_text
+  pub limit : program_limit ≡ 10000
+  pub program : program_text example_trace ≡ example_text
   -- the records whose lines are printed
   pub replayed_two : replayed example_trace 2 ≡ (0 ∷ 0 ∷ 0x31 ∷ replicate 36 0) ∷ (9 ∷ 0x60 ∷ []) ∷ []
   pub replayed_all : replayed (1 ∷ (request 0x60 ++ entry ++ boundary)) 10000 ≡ (9 ∷ 0x60 ∷ []) ∷ (1 ∷ []) ∷ (8 ∷ 1 ∷ 0 ∷ []) ∷ []

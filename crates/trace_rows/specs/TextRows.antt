@@ -1,10 +1,6 @@
 -- Document 02, E5, as rows: numbers in decimal, and the lines, character by character.
-use Prim.Native.Nat.{ℕ}
-use mathlib.Core.Bool.{Bool}
-use mathlib.Core.List.{List, [], ◌∷◌, ◌++◌}
-use lib.Dec.{eqb}
+use Rattle.std.specs.Prelude.{Bool, List, [], ◌∷◌, ◌++◌, eqb}
 use Rattle.processor.specs.Rows.{same_bytes}
-use Rattle.events.specs.declared.answer.Numbers.{Numbers}
 use Rattle.events.specs.Answers.{numbers}
 use Rattle.text.specs.Decimal.{decimal, last_digits, value_from}
 use Rattle.text.specs.Lines.{line, done_line, bad_line}

@@ -1,10 +1,6 @@
 -- Document 02, E5, as rows: big-endian fields, the version, the size of an input, and which body can be read by its kind, its length and
 -- its flags.
-use Prim.Native.Nat.{ℕ, ◌+◌, ◌-◌}
-use mathlib.Core.Bool.{Bool, not, ◌&&◌}
-use mathlib.Core.List.{List, [], ◌∷◌, ◌++◌}
-use lib.Dec.{eqb}
-use lib.ListN.{replicate}
+use Rattle.std.specs.Prelude.{ℕ, ◌+◌, ◌-◌, Bool, not, ◌&&◌, List, [], ◌∷◌, ◌++◌, eqb, replicate}
 use Rattle.processor.specs.Rows.{at_each, at_none, nine}
 use Rattle.trace.specs.Fields.{two_at, four_at, eight_at}
 use Rattle.trace.specs.Format.{version_fits, size_fits, length_of_kind, body_readable}
