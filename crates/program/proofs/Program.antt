@@ -9,18 +9,18 @@ use lib.Dec.{leb}
 use lib.ListN.{length, take, length-take, length-append}
 use lib.Seq.{take_all, length-take-le}
 use borrow.Author.Tests.{leb-true, leb-false, lt-leb}
-use Rattle.processor.specs.Logic.{if◌then◌else◌}
 use Rattle.trace.specs.Format.{version_fits}
 use Rattle.text.specs.Lines.{bad_line}
-use Rattle.recorded.specs.Replay.{is_trace, replay_text, programLimit, programText}
+use Rattle.recorded.specs.Replay.{is_trace, replay_text}
+use Rattle.recorded.specs.ProgramText.{program_limit, program_text}
 use Rattle.playback.specs.declared.Replayed.{Replayed}
 use Rattle.playback.specs.Replays.{room_for, text_fits, buffer_after, Replays}
-use Rattle.program.specs.Program.{Prints, Holds, PrintsHeld}
+use Rattle.program.specs.Program.{Prints, PrintsHeld}
 
-pub fits : {t o : List ℕ} {r : Replayed} {o' : List ℕ} → room_for programLimit ≤ length o → Replays t programLimit o r o' → Prints t o r.written o'
-unfolding text_fits buffer_after programText
+pub fits : {t o : List ℕ} {r : Replayed} {o' : List ℕ} → room_for program_limit ≤ length o → Replays t program_limit o r o' → Prints t o r.written o'
+unfolding text_fits buffer_after program_text
 fits {t} {o} {r} {o'} h w =
-    let fit : leb (length (replay_text t programLimit)) (length o) ≡ true = sym w.fits ∙ w.enough h in
+    let fit : leb (length (replay_text t program_limit)) (length o) ≡ true = sym w.fits ∙ w.enough h in
     record { room = leb-true _ _ fit; written = simp fit at w.written; text = simp fit at w.buffer }
 
 -- above 61,440 bytes there is only "bad 0"
@@ -32,15 +32,15 @@ no-trace t h = ap (λ (x : Bool). version_fits t && x) (lt-leb (length t) 61440 
     by true = refl
     by false = refl
 
-too_long : (t : List ℕ) → 61440 < length t → programText t ≡ bad_line 0
-unfolding programText replay_text
+too_long : (t : List ℕ) → 61440 < length t → program_text t ≡ bad_line 0
+unfolding program_text replay_text
 too_long t h = simp (no-trace t h)
 
-enough : (n : ℕ) (t : List ℕ) → 61440 < n → programText (take n t) ≡ programText t
+enough : (n : ℕ) (t : List ℕ) → 61440 < n → program_text (take n t) ≡ program_text t
 enough n t h = by (leb (length t) n) refl
   where
-    by : (x : Bool) → leb (length t) n ≡ x → programText (take n t) ≡ programText t
-    by true e = ap programText (take_all n t (leb-true _ _ e))
+    by : (x : Bool) → leb (length t) n ≡ x → program_text (take n t) ≡ program_text t
+    by true e = ap program_text (take_all n t (leb-true _ _ e))
     by false e =
         let longer = leb-false (length t) n e in
         too_long (take n t) (omega (arith, length-take-le n t (omega arith))) ∙ sym (too_long t (omega arith))
@@ -49,7 +49,7 @@ enough n t h = by (leb (length t) n) refl
 pub held : {b : List ℕ} {n : ℕ} {o : List ℕ} {r : ℕ} {o' : List ℕ} → 61440 < length b → Prints (take n b) o r o' → PrintsHeld b n o r o'
 held {b} h p = record {
   every = λ t e.
-      let same = ap programText e ∙ enough (length b) t h in
+      let same = ap program_text e ∙ enough (length b) t h in
       record { room = rw same at p.room; written = rw same at p.written; text = rw same at p.text };
 }
 

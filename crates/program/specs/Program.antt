@@ -1,15 +1,12 @@
 -- Document 02, E5: what the program leaves of its two arrays, the one that it reads into and the one for its text.
-use Prim.Native.Nat.{ℕ, ◌≤◌}
-use mathlib.Core.Path.{◌≡◌}
-use mathlib.Core.List.{List, ◌++◌}
-use lib.ListN.{length, take, drop}
-use Rattle.recorded.specs.Replay.{programText}
+use Rattle.std.specs.Prelude.{ℕ, ◌≤◌, ◌≡◌, List, ◌++◌, length, take, drop}
+use Rattle.recorded.specs.ProgramText.{program_text}
 
 -- The text has room and stands at the start, what is behind it stays, and the answer is its length.
 pub record Prints (t o : List ℕ) (r : ℕ) (o' : List ℕ) : Type 0 where
-  pub room : length (programText t) ≤ length o
-  pub written : r ≡ length (programText t)
-  pub text : o' ≡ programText t ++ drop (length (programText t)) o
+  pub room : length (program_text t) ≤ length o
+  pub written : r ≡ length (program_text t)
+  pub text : o' ≡ program_text t ++ drop (length (program_text t)) o
 
 -- The first n bytes of an array are those of an input, as far as the array goes.
 abbrev pub Holds : List ℕ → ℕ → List ℕ → Type 0

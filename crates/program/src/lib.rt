@@ -1,5 +1,7 @@
 // The text of the program `replay`: how many records it takes, how much it reads and the room for its lines are fixed here.
-ghost use mathlib.Core.Path.{◌≡◌};
+#![tactic(auto)]
+
+ghost use Rattle.std.specs.Prelude.{◌≡◌};
 ghost use Rattle.program.specs.Program.{Prints, PrintsHeld};
 
 use playback::replay;

@@ -21,7 +21,7 @@ use Rattle.accesses.specs.Accesses.{memory_access, write_following}
 use Rattle.page.specs.Page.{word_at}
 use Rattle.stores.specs.Stores.{set_word}
 use Rattle.sizes.specs.Sizes.{store_at}
-use Rattle.registers.specs.Vectors.{is_set, put_vector, highest}
+use Rattle.registers.specs.Vectors.{is_set, put_vector}
 use Rattle.meaning.specs.Input.{Input, given, external, leaves}
 use Rattle.meaning.specs.Procedures.{ppr_virtualization, evaluation, evaluated_quiet, retired_record, eoi_end, eoi_virtualization, requested_page, requested_record, self_ipi_virtualization}
 use Rattle.meaning.specs.Entry.{entered, entry, request}

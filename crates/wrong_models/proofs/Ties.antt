@@ -76,6 +76,7 @@ module _ (m : Model) (c : Condition2 m) where
 
 -- each row of a table that holds
 row-among : {row : Row} {rows : List Row} → Memᴰ row rows → T (rows_hold rows) → T (row_holds row)
+row-among {rows = []} x t = elim x [ ]
 row-among {rows = x ∷ xs} (Memᴰ.head e) t = subst (λ x. T (row_holds x)) (sym e) (and_left (row_holds x) (rows_hold xs) t)
 row-among {rows = x ∷ xs} (Memᴰ.tail d) t = row-among d (and_right (row_holds x) (rows_hold xs) t)
 

@@ -1,19 +1,32 @@
 -- Conditions 2 and 3 of the tender, of any model.
-use Prim.Native.Nat.{ℕ}
-use mathlib.Core.Path.{◌≡◌}
-use mathlib.Core.Bool.{true}
-use mathlib.Core.List.{List}
+use Rattle.std.specs.Prelude.{ℕ, ◌<◌, ◌≤◌, ◌≡◌, true, List}
+use Rattle.processor.specs.Offsets.{visr}
 use Rattle.processor.specs.declared.controls.Record.{Record}
+use Rattle.registers.specs.Vectors.{is_set}
 use Rattle.meaning.specs.Input.{Input}
+use Rattle.meaning.specs.After.{After}
 use Rattle.meaning.specs.Step.{step}
 use Rattle.meaning.specs.Run.{Held, start}
 use Rattle.conditions.specs.History.{all_on}
-use Rattle.conditions.specs.Condition3.{Highest, Recognition, Served, Rising, RetiresBy, KeepsBy, AtMost15, Delivers16By}
+use Rattle.conditions.specs.Moves.{retires, move_of, is_delivered}
+use Rattle.conditions.specs.Condition3.{Highest, Recognition, Served, Rising, retired, AtMost15}
 use Rattle.wrong_models.specs.Models.{Model, left_by, run_by, serving_by}
 
 -- Condition 2: on every page, record and input the answer and everything held afterwards are those of the build rules.
 pub record Condition2 (m : Model) : Type 0 where
   pub same : (p : List ℕ) (r : Record) (i : Input) → m p r i ≡ step p r i
+
+-- Sentences of condition 3 of an input i that leaves a, where vs are in service.
+abbrev pub RetiresBy : List ℕ → Held → Input → After → Type 0
+RetiresBy vs h i a =
+    move_of i a.answer ≡ retires → (w : ℕ) → w < 256 → is_set a.page visr w ≡ retired vs (is_set h.page visr) w
+
+abbrev pub KeepsBy : Held → Input → After → Type 0
+KeepsBy h i a =
+    (move_of i a.answer ≡ retires → ⊥) → (w : ℕ) → w < 256 → is_set h.page visr w ≡ true → is_set a.page visr w ≡ true
+
+abbrev pub Delivers16By : After → Type 0
+Delivers16By a = is_delivered a.answer ≡ true → 16 ≤ a.answer.first
 
 -- every sentence of condition 3, of what the model then holds, with the vectors vs delivered and not yet retired
 pub record Sentences (m : Model) (vs : List ℕ) (h : Held) : Type 0 where

@@ -1,8 +1,6 @@
 -- A model as a parameter: what an input leaves of a page and a record. Runs and bench rows over it, in the shape of Run.antt and
 -- Bench.antt of meaning.
-use Prim.Native.Nat.{ℕ}
-use mathlib.Core.Bool.{Bool, true, ◌&&◌}
-use mathlib.Core.List.{List, [], ◌∷◌}
+use Rattle.std.specs.Prelude.{ℕ, Bool, true, ◌&&◌, List, [], ◌∷◌}
 use Rattle.processor.specs.declared.controls.Record.{Record}
 use Rattle.events.specs.declared.answer.Numbers.{Numbers}
 use Rattle.meaning.specs.Input.{Input}

@@ -1,10 +1,5 @@
 -- Document 01, "How tightly each answer is bound": the five models that must be shown to break the claims.
-use Prim.Native.Nat.{ℕ, ◌+◌, ◌-◌}
-use mathlib.Core.Path.{◌≡◌}
-use mathlib.Core.Bool.{false, not, ◌&&◌}
-use mathlib.Core.List.{List, [], ◌∷◌, ◌++◌}
-use lib.Dec.{eqb}
-use lib.ListN.{take, drop}
+use Rattle.std.specs.Prelude.{ℕ, ◌+◌, ◌-◌, ◌≡◌, false, not, ◌&&◌, List, [], ◌∷◌, ◌++◌, eqb, take, drop}
 use Rattle.processor.specs.Logic.{if◌then◌else◌}
 use Rattle.processor.specs.Offsets.{visr}
 use Rattle.processor.specs.declared.controls.Record.{Record}
