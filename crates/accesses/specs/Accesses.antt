@@ -1,6 +1,6 @@
 -- Document 01, "Memory accesses": what an access comes to, and what follows a redirected write.
-use Rattle.std.specs.Prelude.{ℕ, ◌+◌, ◌%◌, Bool, not, ◌&&◌, ◌||◌, eqb, ltb}
-use Rattle.processor.specs.Logic.{if◌then◌else◌, bits}
+use Rattle.std.specs.Prelude.{ℕ, ◌+◌, ◌%◌, Bool, not, ◌&&◌, ◌||◌, eqb, ltb, if◌then◌else◌}
+use Rattle.processor.specs.Logic.{bits}
 use Rattle.processor.specs.Offsets.{vtpr, veoi, vicr_lo, vicr_hi}
 use Rattle.processor.specs.Controls.{use_tpr_shadow, virtualize_apic_accesses, virtual_delivery}
 use Rattle.processor.specs.declared.controls.Controls.{Controls}

@@ -1,6 +1,5 @@
 -- How the exported functions hand their numbers over, and what gg_highest and gg_fresh reply.
-use Rattle.std.specs.Prelude.{ℕ, ◌≡◌, not, List, eqb, length, replicate}
-use Rattle.processor.specs.Logic.{if◌then◌else◌}
+use Rattle.std.specs.Prelude.{ℕ, ◌≡◌, not, List, eqb, length, replicate, if◌then◌else◌}
 use Rattle.processor.specs.Offsets.{virr, visr}
 use Rattle.registers.specs.declared.found.Found.{Found}
 use Rattle.registers.specs.declared.found.Found.TheVariants.{None, Vector}

@@ -1,4 +1,5 @@
 -- A chain of calls is a run, so that conditions 1 and 3 hold of what a simulator calls. Assumes nothing.
+use Rattle.std.specs.Prelude.{if◌then◌else◌}
 use Prim.Native.Nat.{ℕ, ◌+◌, ◌^◌, ◌<◌}
 use native.Mathlib.Omega.{arith}
 use mathlib.Core.Path.{◌≡◌, refl, sym, ◌∙◌, ap, subst}
@@ -7,7 +8,6 @@ use mathlib.Core.List.{List, [], ◌∷◌}
 use lib.Dec.{eqb, leb, ltb, lit<}
 use lib.ListN.{length, replicate}
 use borrow.Author.Tests.{eq-eqb}
-use Rattle.processor.specs.Logic.{if◌then◌else◌}
 use Rattle.processor.specs.declared.controls.Record.{Record}
 use Rattle.processor.proofs.Tests.{left, right}
 use Rattle.events.specs.Answers.{numbers}

@@ -1,6 +1,5 @@
 -- A chain of calls from C, each call's page and record bytes handed on to the next, and the run over the inputs read from them.
-use Rattle.std.specs.Prelude.{ℕ, ◌<◌, ◌≡◌, Bool, true, ◌&&◌, List, [], ◌∷◌, eqb, length, replicate}
-use Rattle.processor.specs.Logic.{if◌then◌else◌}
+use Rattle.std.specs.Prelude.{ℕ, ◌<◌, ◌≡◌, Bool, true, ◌&&◌, List, [], ◌∷◌, eqb, length, replicate, if◌then◌else◌}
 use Rattle.processor.specs.Offsets.{virr, visr}
 use Rattle.events.specs.Answers.{numbers}
 use Rattle.events.specs.declared.answer.Numbers.{Numbers}

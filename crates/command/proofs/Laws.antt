@@ -1,4 +1,5 @@
 -- What the tests of the code say of the definitions: of a read's answer and errno, and of two texts that are the same. Assumes nothing.
+use Rattle.std.specs.Prelude.{if◌then◌else◌}
 use native.Mathlib.Omega.{arith}
 use Prim.Native.Nat.{ℕ}
 use mathlib.Core.Path.{◌≡◌, refl, sym, ap, ap₂, ◌∙◌}
@@ -11,7 +12,6 @@ use borrow.Author.Tests.{eqb-true, ltb-true, ne_eqb}
 use mir.Syntax.{w32, w64}
 use mir.Val.{Fits, SFits, of_z, to_z}
 use mir.Facts.{to_z-of_z}
-use Rattle.processor.specs.Logic.{if◌then◌else◌}
 use Rattle.command.specs.declared.Piece.{Piece}
 use Rattle.command.specs.declared.Piece.TheVariants.{Bytes, End, Interrupted, Failed}
 use Rattle.processor.specs.Rows.{same_bytes}

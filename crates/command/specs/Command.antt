@@ -1,8 +1,7 @@
 -- What the program `replay` decides beside the replay, and the words that it says.
-use Rattle.std.specs.Prelude.{ℕ, Bool, false, List, [], ◌∷◌, eqb, leb, ℤ, pos, negsuc}
+use Rattle.std.specs.Prelude.{ℕ, Bool, false, List, [], ◌∷◌, eqb, leb, ℤ, pos, negsuc, if◌then◌else◌}
 use Prim.Native.Char.{code}
 use Prim.Native.String as Text
-use Rattle.processor.specs.Logic.{if◌then◌else◌}
 use Rattle.processor.specs.Rows.{same_bytes}
 use Rattle.command.specs.declared.Asked.{Asked}
 use Rattle.command.specs.declared.Asked.TheVariants.{StandardInput, File, Help, Wrong}

@@ -1,5 +1,6 @@
 -- Posting is the same as requesting the posted vectors one at a time, in any order: a page is fixed by its request bits and by its bytes
 -- beside them, and RVI by which vectors are raised. Assumes nothing.
+use Rattle.std.specs.Prelude.{if◌then◌else◌}
 use Prim.Native.Nat.{ℕ, zero, suc, ◌+◌, ◌-◌, ◌*◌, ◌/◌, ◌%◌, ◌^◌, ◌≤◌, ◌<◌}
 use native.Mathlib.Omega.{arith}
 use mathlib.Core.Path.{◌≡◌, refl, sym, ◌∙◌, ap}
@@ -8,7 +9,7 @@ use mathlib.Core.List.{List, [], ◌∷◌}
 use lib.Dec.{eqb, ltb, eqb→eq, lit≤}
 use lib.Seq.{ext_get_or, get_or-set_other}
 use borrow.Author.Tests.{eqb-true, eqb-false, eq-eqb, ltb-true, ltb-false}
-use Rattle.processor.specs.Logic.{if◌then◌else◌, bit, member}
+use Rattle.processor.specs.Logic.{bit, member}
 use Rattle.processor.specs.Controls.{with_rvi}
 use Rattle.processor.specs.Offsets.{virr}
 use Rattle.processor.specs.declared.controls.Record.{Record}

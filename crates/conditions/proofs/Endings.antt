@@ -1,5 +1,6 @@
 -- How an input that gets no refusal ends: one walk through the definitions, one case for each way to end, with all that is asked of
 -- it: condition 1, the moves and the widths are read off the cases. Assumes nothing.
+use Rattle.std.specs.Prelude.{if◌then◌else◌}
 use Prim.Native.Nat.{ℕ, ◌+◌, ◌*◌, ◌%◌, ◌≤◌, ◌<◌}
 use native.Mathlib.Omega.{arith}
 use mathlib.Core.Path.{◌≡◌, refl, sym, ap, subst}
@@ -9,7 +10,6 @@ use mathlib.Core.List.{List, [], ◌∷◌}
 use lib.Dec.{eqb, leb, ltb, lit<}
 use lib.ListN.{length}
 use borrow.Author.Tests.{eqb-true, ltb-true, leb-true, ne_eqb}
-use Rattle.processor.specs.Logic.{if◌then◌else◌}
 use Rattle.processor.specs.Controls.{virtualize_x2apic_mode, virtual_delivery, virtualize_apic_accesses, use_tpr_shadow, external_interrupt_exiting, interrupt_window_exiting, flags_in_bounds, with_guest, with_recognised, with_controls}
 use Rattle.processor.specs.Offsets.{vtpr, veoi, vicr_lo, vicr_hi}
 use Rattle.processor.specs.declared.access.Access.{Access}

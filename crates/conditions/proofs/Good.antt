@@ -1,4 +1,5 @@
 -- What each way to end does: the move, and that the record stays settled. Assumes nothing.
+use Rattle.std.specs.Prelude.{if◌then◌else◌}
 use Prim.Native.Nat.{ℕ, ◌/◌, ◌%◌, ◌≤◌, ◌<◌}
 use native.Mathlib.Nat.{le_refl}
 use native.Mathlib.Omega.{arith}
@@ -7,7 +8,7 @@ use mathlib.Core.Bool.{Bool, true, false, not, ◌||◌, true≢false, false≢t
 use mathlib.Core.List.{List, [], ◌∷◌}
 use lib.Dec.{eqb, leb, lit≤}
 use borrow.Author.Tests.{leb-true, le-ltb}
-use Rattle.processor.specs.Logic.{if◌then◌else◌, larger, member}
+use Rattle.processor.specs.Logic.{larger, member}
 use Rattle.events.specs.declared.answer.Numbers.{Numbers}
 use Rattle.events.specs.Answers.{numbers}
 use Rattle.processor.specs.Controls.{virtual_delivery, eoi_exit, interrupt_window_exiting, with_guest, with_rvi, with_svi, with_recognised, with_controls}

@@ -1,4 +1,5 @@
 -- Vectors whose classes fall from the front on: the front one is the highest, and there are at most fifteen. Assumes nothing.
+use Rattle.std.specs.Prelude.{if◌then◌else◌}
 use Prim.Native.Nat.{ℕ, zero, suc, ◌+◌, ◌≤◌, ◌<◌, zero-le}
 use native.Mathlib.Nat.{le_refl, le_trans}
 use native.Mathlib.Omega.{arith}
@@ -8,7 +9,7 @@ use mathlib.Core.List.{List, [], ◌∷◌}
 use lib.Dec.{eqb, ltb}
 use lib.ListN.{length}
 use borrow.Author.Tests.{eqb-true, eq-eqb, lt-ltb, le-ltb}
-use Rattle.processor.specs.Logic.{if◌then◌else◌, member}
+use Rattle.processor.specs.Logic.{member}
 use Rattle.priorities.specs.Priorities.{class}
 use Rattle.registers.proofs.Top.{top, top_unique, top-none}
 use Rattle.registers.specs.Vectors.{put}

@@ -1,4 +1,5 @@
 -- A posting: what it raises, what it keeps of the page, and what it leaves of the descriptor. Assumes nothing.
+use Rattle.std.specs.Prelude.{if◌then◌else◌}
 use Prim.Native.Nat.{ℕ, zero, suc, ◌+◌, ◌-◌, ◌/◌, ◌%◌, ◌≤◌, ◌<◌}
 use native.Mathlib.Nat.{le_refl}
 use native.Mathlib.Omega.{arith}
@@ -9,7 +10,7 @@ use lib.Dec.{ltb, lit≤}
 use lib.ListN.{length, length-set}
 use lib.Seq.{get_or-set_same, get_or-set_other, set_out}
 use borrow.Author.Tests.{eqb-true, le-ltb, ltb-true, ltb-false}
-use Rattle.processor.specs.Logic.{if◌then◌else◌, bit, larger, member}
+use Rattle.processor.specs.Logic.{bit, larger, member}
 use Rattle.processor.specs.Offsets.{vppr, visr, virr}
 use Rattle.page.specs.Page.{byte_at, IsPage}
 use Rattle.registers.specs.declared.found.Found.TheVariants.{Vector}

@@ -1,10 +1,11 @@
 -- A list of vectors raised in a register: its highest vector is then the larger of what it was and of each in turn. Assumes nothing.
+use Rattle.std.specs.Prelude.{if◌then◌else◌}
 use Prim.Native.Nat.{ℕ, ◌<◌}
 use mathlib.Core.Path.{◌≡◌, refl, sym, ◌∙◌, ap}
 use mathlib.Core.Bool.{Bool, true, false, ◌||◌}
 use mathlib.Core.List.{List, [], ◌∷◌}
 use lib.Dec.{eqb, ltb}
-use Rattle.processor.specs.Logic.{if◌then◌else◌, larger, member}
+use Rattle.processor.specs.Logic.{larger, member}
 use Rattle.registers.specs.Vectors.{is_set, put, highest}
 use Rattle.registers.proofs.Top.{top, top-ext, top-raise, highest-top}
 use Rattle.conditions.specs.Moves.{largest, Bytes}

@@ -1,4 +1,5 @@
 -- Bytes stored apart from VIRR, VISR and VPPR, as an access stores them before a procedure follows. Assumes nothing.
+use Rattle.std.specs.Prelude.{if◌then◌else◌}
 use Prim.Native.Nat.{ℕ, zero, suc, ◌+◌, ◌-◌, ◌/◌, ◌%◌, ◌≤◌, ◌<◌}
 use native.Mathlib.Nat.{add-zero}
 use native.Mathlib.Omega.{arith}
@@ -9,7 +10,7 @@ use lib.Dec.{T, eqb, leb, ltb, lit<}
 use lib.ListN.{length, set}
 use lib.Seq.{get_or-set_same, get_or-set_other}
 use borrow.Author.Tests.{eqb-true, ltb-true, ltb-false, leb-true}
-use Rattle.processor.specs.Logic.{if◌then◌else◌, all_below}
+use Rattle.processor.specs.Logic.{all_below}
 use Rattle.processor.specs.Controls.{apic_register_virtualization, virtual_delivery}
 use Rattle.processor.specs.Offsets.{vtpr, vppr, veoi, visr, vicr_lo}
 use Rattle.processor.specs.declared.controls.Controls.{Controls}

@@ -1,12 +1,13 @@
 -- Condition 3 of the tender: each sentence a theorem over every run from the start whose entries have virtual-interrupt delivery on.
 -- Assumes nothing.
+use Rattle.std.specs.Prelude.{if◌then◌else◌}
 use Prim.Native.Nat.{ℕ, ◌≤◌, ◌<◌}
 use native.Mathlib.Omega.{arith}
 use mathlib.Core.Path.{◌≡◌, refl, sym, ◌∙◌, ap, subst}
 use mathlib.Core.Bool.{Bool, true, false}
 use mathlib.Core.List.{List, [], ◌∷◌}
 use lib.Dec.{eqb}
-use Rattle.processor.specs.Logic.{if◌then◌else◌, member}
+use Rattle.processor.specs.Logic.{member}
 use Rattle.priorities.specs.Priorities.{class}
 use Rattle.meaning.specs.Input.{Input}
 use Rattle.processor.specs.Offsets.{visr}

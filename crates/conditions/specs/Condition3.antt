@@ -1,6 +1,6 @@
 -- Condition 3 of the tender, one definition to a sentence, of what is held after a run. In brackets: what is stated besides.
-use Rattle.std.specs.Prelude.{ℕ, zero, suc, ◌+◌, ◌≤◌, ◌<◌, ◌≡◌, Bool, true, false, not, ◌&&◌, List, [], ◌∷◌, ltb}
-use Rattle.processor.specs.Logic.{if◌then◌else◌, member}
+use Rattle.std.specs.Prelude.{ℕ, zero, suc, ◌+◌, ◌≤◌, ◌<◌, ◌≡◌, Bool, true, false, not, ◌&&◌, List, [], ◌∷◌, ltb, if◌then◌else◌}
+use Rattle.processor.specs.Logic.{member}
 use Rattle.processor.specs.Controls.{interrupt_window_exiting}
 use Rattle.priorities.specs.Priorities.{class}
 use Rattle.meaning.specs.Input.{Input}

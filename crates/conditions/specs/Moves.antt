@@ -1,6 +1,6 @@
 -- The moves: every input does to VIRR, VISR, RVI and SVI one of four things; the input and its answer say which.
-use Rattle.std.specs.Prelude.{ℕ, ◌%◌, ◌<◌, ◌≡◌, Bool, true, false, ◌&&◌, ◌||◌, List, [], ◌∷◌, eqb}
-use Rattle.processor.specs.Logic.{if◌then◌else◌, larger, member}
+use Rattle.std.specs.Prelude.{ℕ, ◌%◌, ◌<◌, ◌≡◌, Bool, true, false, ◌&&◌, ◌||◌, List, [], ◌∷◌, eqb, if◌then◌else◌}
+use Rattle.processor.specs.Logic.{larger, member}
 use Rattle.events.specs.declared.answer.Numbers.{Numbers}
 use Rattle.processor.specs.declared.controls.Record.{Record}
 use Rattle.events.specs.declared.event.Event.{Event}

@@ -1,6 +1,5 @@
 -- The law beside the moves: what an input keeps of recognition and of VPPR, where every entry has virtual-interrupt delivery on.
-use Rattle.std.specs.Prelude.{ℕ, ◌≤◌, ◌≡◌, true, false, List}
-use Rattle.processor.specs.Logic.{if◌then◌else◌}
+use Rattle.std.specs.Prelude.{ℕ, ◌≤◌, ◌≡◌, true, false, List, if◌then◌else◌}
 use Rattle.processor.specs.Controls.{virtual_delivery}
 use Rattle.priorities.specs.Priorities.{class, evaluated}
 use Rattle.processor.specs.declared.controls.Record.{Record}

@@ -1,4 +1,5 @@
 -- The set places of a row of bits as a list: exactly those are its members. Assumes nothing.
+use Rattle.std.specs.Prelude.{if◌then◌else◌}
 use Prim.Native.Nat.{ℕ, zero, suc, ◌≤◌, ◌<◌}
 use native.Mathlib.Nat.{not-suc-le-zero}
 use native.Mathlib.Omega.{arith}
@@ -7,7 +8,7 @@ use mathlib.Core.Bool.{Bool, true, false}
 use mathlib.Core.List.{◌∷◌}
 use lib.Dec.{eqb}
 use borrow.Author.Tests.{eqb-true, eqb-false, ne_eqb}
-use Rattle.processor.specs.Logic.{if◌then◌else◌, member}
+use Rattle.processor.specs.Logic.{member}
 use Rattle.descriptor.specs.Descriptor.{places_below}
 
 -- nothing at n or above

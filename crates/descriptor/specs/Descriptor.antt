@@ -1,7 +1,7 @@
 -- Document 02, E1: the lent descriptor, which vectors are posted in it, and what becomes of them.
-use Rattle.std.specs.Prelude.{ℕ, zero, suc, ◌+◌, ◌*◌, ◌/◌, ◌%◌, Bool, false, List, [], ◌∷◌, eqb, length}
+use Rattle.std.specs.Prelude.{ℕ, zero, suc, ◌+◌, ◌*◌, ◌/◌, ◌%◌, Bool, false, List, [], ◌∷◌, eqb, length, if◌then◌else◌}
 use Rattle.std.specs.Int.Bits.{bit_or}
-use Rattle.processor.specs.Logic.{if◌then◌else◌, bit, larger}
+use Rattle.processor.specs.Logic.{bit, larger}
 use Rattle.processor.specs.Offsets.{virr}
 use Rattle.page.specs.Page.{byte_at}
 use Rattle.stores.specs.Stores.{set_byte}

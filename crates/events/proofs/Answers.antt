@@ -1,7 +1,7 @@
 -- An answer's numbers are one to one: an answer is read back from them. Assumes nothing.
+use Rattle.std.specs.Prelude.{if◌then◌else◌}
 use mathlib.Core.Path.{◌≡◌, refl, sym, ◌∙◌, ap}
 use lib.Dec.{eqb}
-use Rattle.processor.specs.Logic.{if◌then◌else◌}
 use Rattle.events.specs.declared.answer.Numbers.{Numbers}
 use Rattle.events.specs.Answers.{numbers_of}
 use Rattle.events.specs.declared.answer.Answer.{Answer}

@@ -1,6 +1,5 @@
 -- Document 01, "CR8 and MSR": what an access comes to.
-use Rattle.std.specs.Prelude.{ℕ, ◌+◌, ◌*◌, ◌%◌, Bool, not, ◌&&◌, ◌||◌, eqb, leb, ltb}
-use Rattle.processor.specs.Logic.{if◌then◌else◌}
+use Rattle.std.specs.Prelude.{ℕ, ◌+◌, ◌*◌, ◌%◌, Bool, not, ◌&&◌, ◌||◌, eqb, leb, ltb, if◌then◌else◌}
 use Rattle.processor.specs.Controls.{use_tpr_shadow, virtualize_x2apic_mode, apic_register_virtualization, virtual_delivery, cr8_load_exiting, cr8_store_exiting}
 use Rattle.processor.specs.declared.controls.Controls.{Controls}
 use Rattle.processor.specs.declared.access.Access.{Access}

@@ -1,5 +1,6 @@
 -- A record stored in 48 bytes is read back and can be read, and another stored over it leaves nothing of it; under the controls that the
 -- bytes hold, its other fields alone change any. Assumes nothing.
+use Rattle.std.specs.Prelude.{if◌then◌else◌}
 use Prim.Native.Nat.{ℕ, zero, suc, ◌+◌, ◌*◌, ◌/◌, ◌%◌, ◌^◌, ◌<◌}
 use native.Mathlib.Nat.{div-div-eq-div-mul}
 use native.Mathlib.Omega.{arith}
@@ -9,7 +10,6 @@ use mathlib.Core.List.{List, [], ◌∷◌}
 use lib.Dec.{eqb, ltb}
 use lib.ListN.{length, get_or}
 use borrow.Author.Tests.{lt-ltb, ltb-true}
-use Rattle.processor.specs.Logic.{if◌then◌else◌}
 use Rattle.processor.specs.declared.controls.Record.{Record}
 use Rattle.page.specs.Page.{word_of, word_at, long_at, word_within, long_within}
 use Rattle.stores.specs.Stores.{set_half, set_word, set_long}

@@ -1,6 +1,5 @@
 -- What a call keeps of the processor record in its 48 bytes, at the places where `layout` reads it.
-use Rattle.std.specs.Prelude.{ℕ, Bool, List, ltb, replicate}
-use Rattle.processor.specs.Logic.{if◌then◌else◌}
+use Rattle.std.specs.Prelude.{ℕ, Bool, List, ltb, replicate, if◌then◌else◌}
 use Rattle.processor.specs.declared.controls.Controls.{Controls}
 use Rattle.processor.specs.declared.controls.Record.{Record}
 use Rattle.stores.specs.Stores.{set_byte, set_half, set_word, set_long}

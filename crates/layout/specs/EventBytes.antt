@@ -1,6 +1,6 @@
 -- One event as bytes: exactly 48, little-endian. A field that the kind does not name is ignored.
-use Rattle.std.specs.Prelude.{ℕ, ◌%◌, Bool, true, false, ◌&&◌, List, eqb, ltb}
-use Rattle.processor.specs.Logic.{if◌then◌else◌, bit}
+use Rattle.std.specs.Prelude.{ℕ, ◌%◌, Bool, true, false, ◌&&◌, List, eqb, ltb, if◌then◌else◌}
+use Rattle.processor.specs.Logic.{bit}
 use Rattle.events.specs.declared.event.Event.{Event}
 use Rattle.events.specs.declared.event.Event.TheVariants.{Entry, Request, MemoryRead, MemoryWrite, ToCr8, FromCr8, Rdmsr, Wrmsr, Boundary}
 use Rattle.page.specs.Page.{byte_at, word_within, long_within}

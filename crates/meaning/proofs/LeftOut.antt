@@ -1,11 +1,11 @@
 -- A boundary that does not matter is quiet and changes nothing, so that it can be left out; one that matters exits 7 or delivers.
 -- Assumes nothing.
+use Rattle.std.specs.Prelude.{if◌then◌else◌}
 use Prim.Native.Nat.{ℕ}
 use mathlib.Core.Path.{◌≡◌, refl, ◌∙◌}
 use mathlib.Core.Bool.{Bool, true, false, ◌&&◌, ◌||◌, true≢false, false≢true}
 use mathlib.Core.Logic.{◌⊎◌, inl, inr}
 use mathlib.Core.List.{List}
-use Rattle.processor.specs.Logic.{if◌then◌else◌}
 use Rattle.processor.specs.Controls.{interrupt_window_exiting}
 use Rattle.processor.specs.declared.controls.Record.{Record}
 use Rattle.events.specs.Answers.{numbers}

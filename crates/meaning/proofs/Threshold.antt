@@ -1,12 +1,12 @@
 -- E2 of document 02, of every page, record and entry: shadow on, VID off and a threshold above VTPR's class keep the guest out. Where the
 -- other tests pass, control 1 decides between check 6 and exit 43. Assumes nothing.
+use Rattle.std.specs.Prelude.{if◌then◌else◌}
 use Prim.Native.Nat.{ℕ}
 use mathlib.Core.Path.{◌≡◌, refl, sym, ◌∙◌}
 use mathlib.Core.Bool.{Bool, true, false, true≢false}
 use mathlib.Core.List.{List}
 use lib.Dec.{eqb}
 use lib.ListN.{length}
-use Rattle.processor.specs.Logic.{if◌then◌else◌}
 use Rattle.processor.specs.Controls.{virtualize_apic_accesses, with_controls}
 use Rattle.processor.specs.Offsets.{vtpr}
 use Rattle.processor.specs.declared.controls.Controls.{Controls}

@@ -1,6 +1,5 @@
 -- Document 01, "Boundary".
-use Rattle.std.specs.Prelude.{ℕ, Bool, false, ◌&&◌, ◌||◌, List}
-use Rattle.processor.specs.Logic.{if◌then◌else◌}
+use Rattle.std.specs.Prelude.{ℕ, Bool, false, ◌&&◌, ◌||◌, List, if◌then◌else◌}
 use Rattle.processor.specs.Controls.{interrupt_window_exiting, with_rvi, with_svi, with_recognised}
 use Rattle.priorities.specs.Priorities.{low_cleared, open_boundary}
 use Rattle.processor.specs.declared.controls.Record.{Record}

@@ -1,6 +1,5 @@
 -- Document 01, "CR8 and MSR".
-use Rattle.std.specs.Prelude.{ℕ, ◌*◌, ◌%◌, List}
-use Rattle.processor.specs.Logic.{if◌then◌else◌}
+use Rattle.std.specs.Prelude.{ℕ, ◌*◌, ◌%◌, List, if◌then◌else◌}
 use Rattle.priorities.specs.Priorities.{class}
 use Rattle.instructions.specs.Instructions.{to_cr8, from_cr8, to_cr8_qualification, from_cr8_qualification, rdmsr_redirected, msr_offset, wrmsr}
 use Rattle.processor.specs.declared.controls.Record.{Record}

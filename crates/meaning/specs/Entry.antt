@@ -1,6 +1,5 @@
 -- Document 01, "Entry and request".
-use Rattle.std.specs.Prelude.{ℕ, true, false, List}
-use Rattle.processor.specs.Logic.{if◌then◌else◌}
+use Rattle.std.specs.Prelude.{ℕ, true, false, List, if◌then◌else◌}
 use Rattle.processor.specs.Controls.{virtual_delivery, with_guest, with_recognised, with_controls}
 use Rattle.rules.specs.EntryChecks.{exits_at_entry}
 use Rattle.processor.specs.declared.controls.Controls.{Controls}

@@ -1,6 +1,5 @@
 -- Document 02, E1: an external interrupt with a vector, in guest mode.
-use Rattle.std.specs.Prelude.{ℕ, ◌≡◌, Bool, not, ◌&&◌, List, eqb}
-use Rattle.processor.specs.Logic.{if◌then◌else◌}
+use Rattle.std.specs.Prelude.{ℕ, ◌≡◌, Bool, not, ◌&&◌, List, eqb, if◌then◌else◌}
 use Rattle.processor.specs.Controls.{external_interrupt_exiting, process_posted_interrupts, with_rvi}
 use Rattle.processor.specs.declared.controls.Controls.{Controls}
 use Rattle.processor.specs.declared.controls.Record.{Record}

@@ -1,6 +1,6 @@
 -- Document 01, "The five procedures".
-use Rattle.std.specs.Prelude.{ℕ, List}
-use Rattle.processor.specs.Logic.{if◌then◌else◌, larger}
+use Rattle.std.specs.Prelude.{ℕ, List, if◌then◌else◌}
+use Rattle.processor.specs.Logic.{larger}
 use Rattle.processor.specs.Controls.{virtual_delivery, eoi_exit, with_rvi, with_svi, with_recognised}
 use Rattle.priorities.specs.Priorities.{ppr, below_threshold, evaluated}
 use Rattle.processor.specs.declared.controls.Record.{Record}

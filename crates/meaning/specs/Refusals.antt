@@ -1,7 +1,6 @@
 -- Document 01, "What comes back", with E1 of document 02: the refusals, in the order in which they are tested. An input gets the first
 -- that applies, with its check, or none.
-use Rattle.std.specs.Prelude.{ℕ, Bool, true, not, ◌&&◌, List, eqb, length}
-use Rattle.processor.specs.Logic.{if◌then◌else◌}
+use Rattle.std.specs.Prelude.{ℕ, Bool, true, not, ◌&&◌, List, eqb, length, if◌then◌else◌}
 use Rattle.processor.specs.Controls.{flags_in_bounds}
 use Rattle.processor.specs.Offsets.{vtpr}
 use Rattle.processor.specs.declared.controls.Record.{Record}

@@ -1,6 +1,5 @@
 -- Document 01, "Registers on the page": bytes of the page, little-endian.
-use Rattle.std.specs.Prelude.{ℕ, ◌+◌, ◌*◌, ◌<◌, ◌≡◌, List, length, get_or, leb}
-use Rattle.processor.specs.Logic.{if◌then◌else◌}
+use Rattle.std.specs.Prelude.{ℕ, ◌+◌, ◌*◌, ◌<◌, ◌≡◌, List, length, get_or, leb, if◌then◌else◌}
 
 -- a byte of the page, 0 past its end
 abbrev pub byte_at : List ℕ → ℕ → ℕ

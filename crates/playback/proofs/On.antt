@@ -1,4 +1,5 @@
 -- Where a replay goes on, where it is over, and what is then left to print. Assumes nothing.
+use Rattle.std.specs.Prelude.{if◌then◌else◌}
 use native.Mathlib.Omega.{arith}
 use Prim.Native.Nat.{ℕ, zero, suc, ◌+◌, ◌≤◌, ◌<◌}
 use mathlib.Core.Path.{◌≡◌, refl, sym, ap, ◌∙◌}
@@ -8,7 +9,6 @@ use lib.Dec.{eqb, leb}
 use lib.ListN.{length, take, drop, length-take, length-drop}
 use lib.Seq.{get_or-take, get_or-drop}
 use borrow.Author.Tests.{eqb-true, eqb-false, ne_eqb}
-use Rattle.processor.specs.Logic.{if◌then◌else◌}
 use Rattle.trace.specs.Format.{cut_short, length_at, kind_of, kind_known, length_of_kind, flags_used, record_readable, body_readable, body_at, next_place}
 use Rattle.page.specs.Page.{byte_at}
 use Rattle.trace.proofs.Has.{not-cut}

@@ -1,6 +1,5 @@
 -- What the turns of a replay leave.
-use Rattle.std.specs.Prelude.{ℕ, ◌+◌, ◌*◌, ◌≤◌, ◌<◌, ◌≡◌, Bool, true, false, List, eqb, leb, length}
-use Rattle.processor.specs.Logic.{if◌then◌else◌}
+use Rattle.std.specs.Prelude.{ℕ, ◌+◌, ◌*◌, ◌≤◌, ◌<◌, ◌≡◌, Bool, true, false, List, eqb, leb, length, if◌then◌else◌}
 use Rattle.trace.specs.Format.{record_readable, body_at, next_place}
 use Rattle.text.specs.Lines.{line, done_line, bad_line}
 use Rattle.text.specs.Written.{written, Writes}

@@ -1,6 +1,5 @@
 -- Document 01, "The five procedures" and "Boundary": what each of them decides from numbers alone.
-use Rattle.std.specs.Prelude.{ℕ, ◌/◌, ◌%◌, ◌*◌, Bool, not, ◌&&◌, leb, ltb}
-use Rattle.processor.specs.Logic.{if◌then◌else◌}
+use Rattle.std.specs.Prelude.{ℕ, ◌/◌, ◌%◌, ◌*◌, Bool, not, ◌&&◌, leb, ltb, if◌then◌else◌}
 use Rattle.processor.specs.Controls.{interrupt_window_exiting}
 use Rattle.processor.specs.declared.controls.Controls.{Controls}
 

@@ -1,6 +1,6 @@
 -- Document 01, "Processor record and controls", with the controls of E1 of document 02.
-use Rattle.std.specs.Prelude.{ℕ, ◌/◌, ◌%◌, ◌^◌, Bool, false, eqb, ltb}
-use Rattle.processor.specs.Logic.{if◌then◌else◌, bit}
+use Rattle.std.specs.Prelude.{ℕ, ◌/◌, ◌%◌, ◌^◌, Bool, false, eqb, ltb, if◌then◌else◌}
+use Rattle.processor.specs.Logic.{bit}
 use Rattle.processor.specs.declared.controls.Controls.{Controls}
 use Rattle.processor.specs.declared.controls.Record.{Record}
 

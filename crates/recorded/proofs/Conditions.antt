@@ -1,11 +1,11 @@
 -- Condition 3 of a replay: each sentence, of what is held at its end, where every entry of it has virtual-interrupt delivery on. Assumes
 -- nothing.
+use Rattle.std.specs.Prelude.{if◌then◌else◌}
 use Prim.Native.Nat.{ℕ}
 use mathlib.Core.Path.{◌≡◌, refl, sym, ◌∙◌, subst}
 use mathlib.Core.Bool.{Bool, true, false}
 use mathlib.Core.List.{List, [], ◌∷◌}
 use lib.Dec.{eqb}
-use Rattle.processor.specs.Logic.{if◌then◌else◌}
 use Rattle.processor.specs.Controls.{no_controls, virtual_delivery}
 use Rattle.processor.specs.declared.controls.Controls.{Controls}
 use Rattle.page.specs.Page.{byte_at}

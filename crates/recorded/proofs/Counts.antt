@@ -1,4 +1,5 @@
 -- The count reported is that of the records whose lines are printed. Assumes nothing.
+use Rattle.std.specs.Prelude.{if◌then◌else◌}
 use native.Mathlib.Omega.{arith}
 use Prim.Native.Nat.{ℕ, zero, suc, ◌+◌, ◌/◌}
 use mathlib.Core.Path.{◌≡◌, refl, ap}
@@ -7,7 +8,6 @@ use mathlib.Core.List.{List, [], ◌∷◌, ◌++◌}
 use lib.Dec.{eqb, ltb}
 use lib.ListN.{length}
 use borrow.Author.Tests.{ne_eqb}
-use Rattle.processor.specs.Logic.{if◌then◌else◌}
 use Rattle.events.specs.declared.answer.Numbers.{Numbers}
 use Rattle.text.specs.Decimal.{digit, digits}
 use Rattle.text.specs.Lines.{line, done_line, bad_line, line_end}

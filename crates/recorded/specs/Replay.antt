@@ -1,6 +1,5 @@
 -- Document 02, E5: what a replay prints.
-use Rattle.std.specs.Prelude.{ℕ, zero, suc, ◌+◌, Bool, true, false, ◌&&◌, List, [], ◌∷◌, ◌++◌, leb, length}
-use Rattle.processor.specs.Logic.{if◌then◌else◌}
+use Rattle.std.specs.Prelude.{ℕ, zero, suc, ◌+◌, Bool, true, false, ◌&&◌, List, [], ◌∷◌, ◌++◌, leb, length, if◌then◌else◌}
 use Rattle.events.specs.declared.answer.Numbers.{Numbers}
 use Rattle.trace.specs.Format.{version_fits, size_fits, record_readable, body_at, next_place}
 use Rattle.text.specs.Lines.{line, done_line, bad_line}

@@ -1,6 +1,5 @@
 -- What is proved of every replay.
-use Rattle.std.specs.Prelude.{ℕ, ◌+◌, ◌≡◌, Bool, true, ◌&&◌, List, [], ◌∷◌, ◌++◌, leb, eqb, length, take}
-use Rattle.processor.specs.Logic.{if◌then◌else◌}
+use Rattle.std.specs.Prelude.{ℕ, ◌+◌, ◌≡◌, Bool, true, ◌&&◌, List, [], ◌∷◌, ◌++◌, leb, eqb, length, take, if◌then◌else◌}
 use Rattle.processor.specs.Controls.{no_controls, virtual_delivery}
 use Rattle.processor.specs.declared.controls.Controls.{Controls}
 use Rattle.events.specs.declared.answer.Numbers.{Numbers}

@@ -1,5 +1,6 @@
 -- What setting or clearing one bit of a register does to every bit of it, and what a byte stored elsewhere does, over the register's
 -- base. Assumes nothing.
+use Rattle.std.specs.Prelude.{if◌then◌else◌}
 use Prim.Native.Nat.{ℕ, ◌+◌, ◌*◌, ◌/◌, ◌%◌, ◌≤◌, ◌<◌}
 use native.Mathlib.Omega.{arith}
 use mathlib.Core.Path.{◌≡◌, refl, sym, ◌∙◌, ap}
@@ -9,7 +10,7 @@ use lib.Dec.{eqb, ltb, ltb→lt}
 use lib.ListN.{length, get_or, set}
 use lib.Seq.{get_or-set_same, get_or-set_other}
 use borrow.Author.Tests.{eqb-true, eqb-false, eq-eqb, ne_eqb}
-use Rattle.processor.specs.Logic.{if◌then◌else◌, bit, all_below}
+use Rattle.processor.specs.Logic.{bit, all_below}
 use Rattle.processor.proofs.Tests.{below, same}
 use Rattle.page.specs.Page.{byte_at}
 use Rattle.stores.specs.Stores.{set_byte}

@@ -1,5 +1,6 @@
 -- The search for the highest set place: a word's by its leading zeros, word by word down a row of 256 bits; the words of a register.
 -- Assumes nothing.
+use Rattle.std.specs.Prelude.{if◌then◌else◌}
 use Prim.Native.Nat.{ℕ, zero, suc, ◌+◌, ◌-◌, ◌*◌, ◌/◌, ◌%◌, ◌^◌, ◌<◌, ◌≤◌}
 use native.Mathlib.Nat.{not-suc-le-zero, le_refl, add-zero, add-suc, sub-add_cancel, pow-succ', le-div_iff_mul-le, div-lt_iff_lt-mul}
 use native.Mathlib.Omega.{arith}
@@ -9,7 +10,7 @@ use mathlib.Core.List.{List}
 use lib.Count.{count_leading_zeros, leading_unique}
 use lib.Pow.{pow_pos}
 use borrow.Author.Tests.{eqb-true, eqb-false, ne_eqb}
-use Rattle.processor.specs.Logic.{if◌then◌else◌, bit}
+use Rattle.processor.specs.Logic.{bit}
 use Rattle.page.specs.Page.{byte_at, word_at}
 use Rattle.registers.specs.declared.found.Found.{Found}
 use Rattle.registers.specs.declared.found.Found.TheVariants.{Vector}

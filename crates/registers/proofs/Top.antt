@@ -1,4 +1,5 @@
 -- The highest set place of a row of bits, below n: what it is, and what setting or clearing one bit does to it. Assumes nothing.
+use Rattle.std.specs.Prelude.{if◌then◌else◌}
 use Prim.Native.Nat.{ℕ, zero, suc, ◌≤◌, ◌<◌}
 use native.Mathlib.Nat.{not-suc-le-zero, le_refl}
 use native.Mathlib.Omega.{arith}
@@ -7,7 +8,7 @@ use mathlib.Core.Bool.{Bool, true, false, true≢false}
 use mathlib.Core.List.{List}
 use lib.Dec.{eqb, ltb}
 use borrow.Author.Tests.{eq-eqb, eqb-true, eqb-false, ltb-true, ltb-false}
-use Rattle.processor.specs.Logic.{if◌then◌else◌, larger}
+use Rattle.processor.specs.Logic.{larger}
 use Rattle.registers.specs.declared.found.Found.TheVariants.{Vector}
 use Rattle.registers.specs.Vectors.{is_set, put, highest_of, highest_below, or_else, highest}
 

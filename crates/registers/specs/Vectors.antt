@@ -1,6 +1,6 @@
 -- Document 01, "Registers on the page": the vectors of VIRR and VISR.
-use Rattle.std.specs.Prelude.{ℕ, zero, suc, ◌+◌, ◌-◌, ◌*◌, ◌/◌, ◌%◌, ◌^◌, ◌<◌, ◌≤◌, ◌≡◌, Bool, true, false, List, eqb}
-use Rattle.processor.specs.Logic.{if◌then◌else◌, bit}
+use Rattle.std.specs.Prelude.{ℕ, zero, suc, ◌+◌, ◌-◌, ◌*◌, ◌/◌, ◌%◌, ◌^◌, ◌<◌, ◌≤◌, ◌≡◌, Bool, true, false, List, eqb, if◌then◌else◌}
+use Rattle.processor.specs.Logic.{bit}
 use Rattle.page.specs.Page.{byte_at}
 use Rattle.stores.specs.Stores.{set_byte}
 use Rattle.registers.specs.declared.found.Found.{Found}

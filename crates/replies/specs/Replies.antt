@@ -1,6 +1,5 @@
 -- What gg_step, gg_external_interrupt and gg_leave reply, and what they leave in the lent bytes.
-use Rattle.std.specs.Prelude.{ℕ, ◌≡◌, Bool, not, ◌&&◌, List, eqb, length}
-use Rattle.processor.specs.Logic.{if◌then◌else◌}
+use Rattle.std.specs.Prelude.{ℕ, ◌≡◌, Bool, not, ◌&&◌, List, eqb, length, if◌then◌else◌}
 use Rattle.events.specs.Answers.{numbers_of}
 use Rattle.events.specs.declared.answer.Numbers.{Numbers}
 use Rattle.events.specs.declared.answer.Outcome.{Outcome}

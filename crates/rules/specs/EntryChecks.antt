@@ -1,6 +1,5 @@
 -- Document 01, "Entry and request", with E1 and E2 of document 02: the checks, and when exit 43 follows at once.
-use Rattle.std.specs.Prelude.{ℕ, Bool, not, ◌&&◌, ◌||◌, ltb}
-use Rattle.processor.specs.Logic.{if◌then◌else◌}
+use Rattle.std.specs.Prelude.{ℕ, Bool, not, ◌&&◌, ◌||◌, ltb, if◌then◌else◌}
 use Rattle.processor.specs.Controls.{use_tpr_shadow, virtualize_apic_accesses, virtualize_x2apic_mode, apic_register_virtualization, virtual_delivery, external_interrupt_exiting, process_posted_interrupts, acknowledge_on_exit}
 use Rattle.priorities.specs.Priorities.{class}
 use Rattle.processor.specs.declared.controls.Controls.{Controls}

@@ -1,4 +1,5 @@
 -- What a record tells, from what its parts tell. Assumes nothing.
+use Rattle.std.specs.Prelude.{if◌then◌else◌}
 use native.Mathlib.Omega.{arith}
 use Prim.Native.Nat.{ℕ, ◌<◌}
 use mathlib.Core.Path.{◌≡◌, refl, sym, ap, ◌∙◌}
@@ -6,7 +7,6 @@ use mathlib.Core.Bool.{Bool, true, false, true≢false}
 use mathlib.Core.Logic.{⊎_elim}
 use lib.Dec.{eqb}
 use mathlib.Core.List.{List}
-use Rattle.processor.specs.Logic.{if◌then◌else◌}
 use Rattle.processor.specs.Controls.{with_controls}
 use Rattle.processor.specs.declared.controls.Controls.{Controls}
 use Rattle.processor.specs.declared.controls.Record.{Record}

@@ -1,6 +1,5 @@
 -- Document 01, "Memory accesses": the bytes of an access, by its size.
-use Rattle.std.specs.Prelude.{ℕ, ◌%◌, List, eqb}
-use Rattle.processor.specs.Logic.{if◌then◌else◌}
+use Rattle.std.specs.Prelude.{ℕ, ◌%◌, List, eqb, if◌then◌else◌}
 use Rattle.page.specs.Page.{byte_at, half_at, word_at, long_at}
 use Rattle.stores.specs.Stores.{set_byte, set_half, set_word, set_long}
 

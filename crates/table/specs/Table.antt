@@ -1,6 +1,6 @@
 -- Document 01, "Memory accesses": the table of open offsets.
-use Rattle.std.specs.Prelude.{ℕ, zero, suc, ◌+◌, Bool, ◌&&◌, ◌||◌, List, [], ◌∷◌, ◌++◌, eqb, leb, ltb}
-use Rattle.processor.specs.Logic.{if◌then◌else◌, without, any}
+use Rattle.std.specs.Prelude.{ℕ, zero, suc, ◌+◌, Bool, ◌&&◌, ◌||◌, List, [], ◌∷◌, ◌++◌, eqb, leb, ltb, if◌then◌else◌}
+use Rattle.processor.specs.Logic.{without, any}
 use Rattle.processor.specs.Offsets.{vtpr, veoi, vicr_lo}
 use Rattle.processor.specs.Controls.{apic_register_virtualization, virtual_delivery}
 use Rattle.processor.specs.declared.controls.Controls.{Controls}

@@ -1,4 +1,5 @@
 -- Laws of a number's digits. Assumes nothing.
+use Rattle.std.specs.Prelude.{if◌then◌else◌}
 use native.Mathlib.Omega.{arith}
 use Prim.Native.Nat.{ℕ, zero, suc, ◌+◌, ◌*◌, ◌-◌, ◌/◌, ◌^◌, ◌≤◌, ◌<◌}
 use mathlib.Core.Path.{◌≡◌, refl, sym, ap, ◌∙◌}
@@ -6,7 +7,6 @@ use mathlib.Core.Bool.{Bool, true, false}
 use mathlib.Core.List.{List, [], ◌∷◌, ◌++◌, append_assoc, append-nil}
 use lib.Dec.{ltb}
 use borrow.Author.Tests.{ltb-true, lt-ltb, le-ltb}
-use Rattle.processor.specs.Logic.{if◌then◌else◌}
 use Rattle.text.specs.Decimal.{digit, digits, decimal, last_digits, value_from}
 
 below-ten : (k n : ℕ) → n < 10 ^ suc (suc k) → n / 10 < 10 ^ suc k

@@ -1,4 +1,5 @@
 -- How long a number, a line and a last line are. Assumes nothing.
+use Rattle.std.specs.Prelude.{if◌then◌else◌}
 use native.Mathlib.Omega.{arith}
 use Prim.Native.Nat.{ℕ, zero, suc, ◌/◌, ◌^◌, ◌≤◌, ◌<◌}
 use mathlib.Core.Path.{◌≡◌, refl}
@@ -7,7 +8,6 @@ use mathlib.Core.List.{[], ◌∷◌, ◌++◌}
 use lib.Dec.{ltb}
 use lib.ListN.{length, length-append}
 use borrow.Author.Tests.{ltb-false}
-use Rattle.processor.specs.Logic.{if◌then◌else◌}
 use Rattle.events.specs.declared.answer.Numbers.{Numbers}
 use Rattle.text.specs.Decimal.{digit, digits, last_digits}
 use Rattle.text.specs.Lines.{field, line, done_line, bad_line}

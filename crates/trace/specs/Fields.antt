@@ -1,6 +1,5 @@
 -- Document 02, E5: fields "all big-endian", each 0 where the bytes do not have it whole.
-use Rattle.std.specs.Prelude.{ℕ, ◌+◌, ◌*◌, Bool, List, leb, length}
-use Rattle.processor.specs.Logic.{if◌then◌else◌}
+use Rattle.std.specs.Prelude.{ℕ, ◌+◌, ◌*◌, Bool, List, leb, length, if◌then◌else◌}
 use Rattle.page.specs.Page.{byte_at}
 
 -- the bytes have n of them from a place on

@@ -1,6 +1,5 @@
 -- Document 02, E5: the format of a trace, and which record can be read. A place is that of a record's length field.
-use Rattle.std.specs.Prelude.{ℕ, ◌+◌, Bool, true, not, ◌&&◌, List, [], eqb, ltb, leb, length, take, drop}
-use Rattle.processor.specs.Logic.{if◌then◌else◌}
+use Rattle.std.specs.Prelude.{ℕ, ◌+◌, Bool, true, not, ◌&&◌, List, [], eqb, ltb, leb, length, take, drop, if◌then◌else◌}
 use Rattle.page.specs.Page.{byte_at}
 use Rattle.trace.specs.Fields.{has, two_at}
 

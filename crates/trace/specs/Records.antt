@@ -1,6 +1,6 @@
 -- Document 02, E5: what a body says, its fields in document 01's order.
-use Rattle.std.specs.Prelude.{ℕ, Bool, List, eqb}
-use Rattle.processor.specs.Logic.{if◌then◌else◌, bit}
+use Rattle.std.specs.Prelude.{ℕ, Bool, List, eqb, if◌then◌else◌}
+use Rattle.processor.specs.Logic.{bit}
 use Rattle.processor.specs.declared.controls.Controls.{Controls}
 use Rattle.events.specs.declared.event.Event.{Event}
 use Rattle.events.specs.declared.event.Event.TheVariants.{Entry, Request, MemoryRead, MemoryWrite, ToCr8, FromCr8, Rdmsr, Wrmsr, Boundary}

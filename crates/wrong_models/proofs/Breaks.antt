@@ -1,11 +1,12 @@
 -- Each of the five wrong models breaks what document 01 names: a bench row that is computed to be false of it, and with it condition 2, or
 -- condition 3 at a run that is computed. Assumes nothing.
+use Rattle.std.specs.Prelude.{if◌then◌else◌}
 use Prim.Native.Nat.{ℕ, ◌%◌}
 use mathlib.Core.Path.{◌≡◌, refl, sym, ◌∙◌, ap, subst}
 use mathlib.Core.Bool.{Bool, true, false, false≢true}
 use mathlib.Core.List.{List, [], ◌∷◌, Memᴰ}
 use lib.Dec.{eqb, lit<}
-use Rattle.processor.specs.Logic.{if◌then◌else◌, larger, member}
+use Rattle.processor.specs.Logic.{larger, member}
 use Rattle.processor.specs.Controls.{eoi_exit_word}
 use Rattle.processor.specs.Offsets.{veoi, vicr_lo}
 use Rattle.processor.specs.declared.controls.Record.{Record}

@@ -1,6 +1,5 @@
 -- Document 01, "How tightly each answer is bound": the five models that must be shown to break the claims.
-use Rattle.std.specs.Prelude.{ℕ, ◌+◌, ◌-◌, ◌≡◌, false, not, ◌&&◌, List, [], ◌∷◌, ◌++◌, eqb, take, drop}
-use Rattle.processor.specs.Logic.{if◌then◌else◌}
+use Rattle.std.specs.Prelude.{ℕ, ◌+◌, ◌-◌, ◌≡◌, false, not, ◌&&◌, List, [], ◌∷◌, ◌++◌, eqb, take, drop, if◌then◌else◌}
 use Rattle.processor.specs.Offsets.{visr}
 use Rattle.processor.specs.declared.controls.Record.{Record}
 use Rattle.events.specs.declared.event.Event.TheVariants.{Entry, Request}
