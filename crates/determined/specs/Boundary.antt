@@ -1,6 +1,5 @@
 -- The claims of the functions exported to C, and of those that they hand over, allow one outcome.
-use Prim.Native.Nat.{ℕ}
-use mathlib.Core.List.{List}
+use Rattle.std.specs.Prelude.{ℕ, List}
 use Rattle.events.specs.declared.answer.Numbers.{Numbers}
 use Rattle.replies.specs.Replies.{Reply, Replies, LentReply, RepliesLent}
 use Rattle.calls.specs.Calls.{Handed, FreshReply, FreshReplies}

@@ -1,7 +1,5 @@
 -- The claims of the model's functions, and of those that they are made of, allow one outcome.
-use Prim.Native.Nat.{ℕ}
-use mathlib.Core.Path.{◌≡◌}
-use mathlib.Core.List.{List}
+use Rattle.std.specs.Prelude.{ℕ, ◌≡◌, List}
 use Rattle.processor.specs.Offsets.{visr}
 use Rattle.events.specs.declared.answer.Outcome.{Outcome}
 use Rattle.registers.specs.Vectors.{clear_vector, highest}

@@ -1,8 +1,6 @@
 -- The claims of the functions that a replay is made of allow one outcome: text, reader, session, replay.
-use Prim.Native.Nat.{ℕ}
-use mathlib.Core.Path.{◌≡◌}
-use mathlib.Core.List.{List}
-use denote.Ref.{Bor}
+use Rattle.std.specs.Prelude.{ℕ, ◌≡◌, List}
+use Rattle.std.specs.Borrow.{Bor}
 use Rattle.text.specs.Written.{Writes}
 use Rattle.trace.specs.Format.{next_place}
 use Rattle.reader.specs.declared.Reader.{Reader}
