@@ -1,6 +1,11 @@
 // What the program `replay` decides beside the replay: what its arguments ask, what a read says, and the words that it then says.
+#![tactic(auto, unfolding(crate::specs::Command::asked_of, crate::specs::Command::piece_of, crate::specs::Command::usage_text, crate::specs::Command::words_of))]
+
 ghost use Rattle.std.specs.Prelude.{◌≡◌};
 ghost use Rattle.command.specs.Command.{asked_of, piece_of, words_of, usage_text};
+
+// errno's number for a call that a signal interrupted.
+const EINTR: i32 = 4;
 
 // What the arguments ask.
 #[derive(Clone, Copy)]
@@ -38,7 +43,7 @@ pub fn asked_of(count: usize, first: &[u8]) -> Asked
     if 3 <= count {
         return Asked::Wrong;
     }
-    if check::same(first, b"--help") {
+    if first == b"--help".as_slice() {
         return Asked::Help;
     }
     Asked::File
@@ -49,7 +54,7 @@ pub fn piece_of(got: isize, error: i32) -> Piece
     ensures { result ≡ piece_of got error }
 {
     if got < 0 {
-        if error == libc::EINTR {
+        if error == EINTR {
             return Piece::Interrupted;
         }
         return Piece::Failed;
