@@ -11,3 +11,4 @@ pub mod Laws
 pub mod Ladder
 pub mod Invariant
 pub mod Theorems
+pub mod Bits

@@ -4,3 +4,4 @@ pub mod Requests
 pub mod Settled
 pub mod History
 pub mod Condition3
+pub mod Bits
