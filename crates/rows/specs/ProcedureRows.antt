@@ -12,7 +12,7 @@ use Rattle.rows.specs.RowStart.{marked, busy, guest, root, of_event}
 abbrev ppr : ℕ → ℕ → ℕ → Row
 ppr vtpr svi vppr =
     let r = guest 0x95 svi true (busy 0x3b 5) in
-    record { begin = record { page = marked (word 0x080 vtpr ∷ []); state = r }; deed = ppr_alone; answers = []; state = r; changed = (word 0x0a0 vppr ∷ []) }
+    record { begin = record { page = marked (word 0x080 vtpr ∷ []); state = r }; deed = ppr_alone; answers = []; state = r; changed = word 0x0a0 vppr ∷ [] }
 
 abbrev ppr_rows : List Row
 ppr_rows =
