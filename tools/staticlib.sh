@@ -1,6 +1,6 @@
 #!/bin/sh
 # Proves the crates of the static libraries and writes the libraries to target/staticlib: staticlib.sh [NAME...]
-# NAME is capi (libcapi.a, which the crate capi_c makes) or capi_replay (libcapi_replay.a); both where none is named.
+# NAME is capi (libcapi.a, which the crate capi_c makes) or capi_replay (libcapi_replay.a, by capi_replay_c); both where none is named.
 set -eu
 
 root=$(cd "$(dirname "$0")/.." && pwd)
@@ -12,7 +12,7 @@ mkdir -p "$root/target/staticlib"
 for name; do
     case $name in
     capi) crate=capi_c ;;
-    capi_replay) crate=capi_replay ;;
+    capi_replay) crate=capi_replay_c ;;
     *)
         echo "staticlib.sh: no static library $name; there are capi and capi_replay" >&2
         exit 2

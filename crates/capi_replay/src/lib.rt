@@ -6,8 +6,7 @@ ghost use Rattle.playback.specs.Replays.{GgReplays};
 use playback::replay;
 
 // The replay of a trace into a buffer: whether the text fits comes back, the number of bytes written goes to written.
-#[unsafe(no_mangle)]
-pub extern "C" fn gg_replay(trace: &[u8], limit: u32, out: &mut [u8], written: &mut u64) -> u32
+pub fn gg_replay(trace: &[u8], limit: u32, out: &mut [u8], written: &mut u64) -> u32
     ensures { GgReplays trace.now limit out.old result written.new out.new }
 {
     let text = replay(trace, limit, out);
