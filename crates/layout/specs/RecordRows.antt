@@ -7,15 +7,15 @@ use Rattle.processor.specs.declared.controls.Record.{Record}
 use Rattle.layout.specs.RecordBytes.{record_readable, record_of}
 use Rattle.layout.specs.EventRows.{event_bytes, Reads, Unread, entry_bytes}
 
-abbrev four : ℕ → ℕ → ℕ → ℕ → List ℕ
-four a b c d = a ∷ b ∷ c ∷ d ∷ []
+abbrev four_bytes : ℕ → ℕ → ℕ → ℕ → List ℕ
+four_bytes a b c d = a ∷ b ∷ c ∷ d ∷ []
 
-abbrev none : List ℕ
-none = replicate 8 0
+abbrev no_value : List ℕ
+no_value = replicate 8 0
 
 -- an event whose bytes are all different: size 11, detail 13, the number's bytes 14 on, the value's bytes 18 on
 abbrev pub different : ℕ → ℕ → ℕ → ℕ → List ℕ
-different kind flags number₂ number₃ = event_bytes (four kind 0x11 flags 0x13) (four 0x14 0x15 number₂ number₃) (0x18 ∷ 0x19 ∷ 0x1a ∷ 0x1b ∷ 0x1c ∷ 0x1d ∷ 0x1e ∷ 0x1f ∷ [])
+different kind flags number₂ number₃ = event_bytes (four_bytes kind 0x11 flags 0x13) (four_bytes 0x14 0x15 number₂ number₃) (0x18 ∷ 0x19 ∷ 0x1a ∷ 0x1b ∷ 0x1c ∷ 0x1d ∷ 0x1e ∷ 0x1f ∷ [])
 
 -- the controls' bytes, all different: threshold from byte 4 on, flags, notification vector, two bytes that must be 0, four words
 abbrev pub control_bytes : List ℕ → List ℕ
@@ -38,7 +38,7 @@ different_controls =
 
 -- a record's bytes: mode, RVI 52, SVI 31, recognised, the controls
 abbrev pub record_with : ℕ → ℕ → List ℕ → List ℕ
-record_with mode recognised reserved = four mode 0x52 0x31 recognised ++ control_bytes reserved
+record_with mode recognised reserved = four_bytes mode 0x52 0x31 recognised ++ control_bytes reserved
 
 abbrev pub none₂ : List ℕ
 none₂ = 0 ∷ 0 ∷ []
@@ -51,14 +51,14 @@ UnreadRecord b = record_readable b ≡ false
 
 pub record RecordRows : Type 0 where
   -- each kind with every byte different: a field that the kind does not name is ignored
-  pub entry_of : Reads (four 1 0xf1 0xf2 0xf3 ++ control_bytes none₂) (Entry different_controls)
+  pub entry_of : Reads (four_bytes 1 0xf1 0xf2 0xf3 ++ control_bytes none₂) (Entry different_controls)
   pub read_of : Reads (different 2 2 0 0) (MemoryRead 0x1514 0x11 false true)
   pub read_of_none : Reads (different 2 0 0 0) (MemoryRead 0x1514 0x11 false false)
   pub read_of_both : Reads (different 2 3 0 0) (MemoryRead 0x1514 0x11 true true)
   pub write_of : Reads (different 3 1 0 0) (MemoryWrite 0x1514 0x11 true false 0x1f1e_1d1c_1b1a_1918)
   pub write_of_none : Reads (different 3 0 0 0) (MemoryWrite 0x1514 0x11 false false 0x1f1e_1d1c_1b1a_1918)
   pub write_of_both : Reads (different 3 3 0 0) (MemoryWrite 0x1514 0x11 true true 0x1f1e_1d1c_1b1a_1918)
-  pub to_of : Reads (event_bytes (four 4 0x11 0x12 0x13) (four 0x14 0x15 0x16 0x17) (0x18 ∷ replicate 7 0)) (ToCr8 0x18 0x13)
+  pub to_of : Reads (event_bytes (four_bytes 4 0x11 0x12 0x13) (four_bytes 0x14 0x15 0x16 0x17) (0x18 ∷ replicate 7 0)) (ToCr8 0x18 0x13)
   pub from_of : Reads (different 5 0xff 0x16 0x17) (FromCr8 0x13)
   pub rdmsr_of : Reads (different 6 0xff 0x16 0x17) (Rdmsr 0x1716_1514)
   pub wrmsr_of : Reads (different 7 0xff 0x16 0x17) (Wrmsr 0x1716_1514 0x1f1e_1d1c_1b1a_1918)
@@ -72,18 +72,18 @@ pub record RecordRows : Type 0 where
   pub write_flags_above : Unread (different 3 0x80 0 0)
   pub read_offset : Unread (different 2 0 1 0)
   pub read_offset_above : Unread (different 2 0 0 1)
-  pub read_offset_largest : Reads (event_bytes (four 2 4 0 0) (four 0xff 0xff 0 0) none) (MemoryRead 0xffff 4 false false)
-  pub write_offset_largest : Reads (event_bytes (four 3 4 0 0) (four 0xff 0xff 0 0) none) (MemoryWrite 0xffff 4 false false 0)
+  pub read_offset_largest : Reads (event_bytes (four_bytes 2 4 0 0) (four_bytes 0xff 0xff 0 0) no_value) (MemoryRead 0xffff 4 false false)
+  pub write_offset_largest : Reads (event_bytes (four_bytes 3 4 0 0) (four_bytes 0xff 0xff 0 0) no_value) (MemoryWrite 0xffff 4 false false 0)
   pub write_offset_above : Unread (different 3 0 0 0x80)
   pub to_value : Unread (different 4 0 0 0)
-  pub to_value_above : Unread (event_bytes (four 4 0 0 9) (four 0 0 0 0) (replicate 7 0 ++ (1 ∷ [])))
+  pub to_value_above : Unread (event_bytes (four_bytes 4 0 0 9) (four_bytes 0 0 0 0) (replicate 7 0 ++ (1 ∷ [])))
   pub boundary_flags_above : Unread (different 8 0x85 0 0)
   pub request_above : Unread (different 9 0 0 1)
   pub kind11 : Unread (different 11 0 0 0)
   pub kind255 : Unread (different 0xff 0 0 0)
-  pub reserved_exactly : Unread (entry_bytes (four 0 0 1 0))
-  pub reserved_above : Unread (four 1 0 0 0 ++ control_bytes (0 ∷ 1 ∷ []))
-  pub notification_largest : Reads (entry_bytes (four 0xff 0xff 0 0)) (Entry (record { flags = 0x633; threshold = 5; notification = 0xffff; eoi_exit_0 = 1; eoi_exit_1 = 2; eoi_exit_2 = 3; eoi_exit_3 = 4 }))
+  pub reserved_exactly : Unread (entry_bytes (four_bytes 0 0 1 0))
+  pub reserved_above : Unread (four_bytes 1 0 0 0 ++ control_bytes (0 ∷ 1 ∷ []))
+  pub notification_largest : Reads (entry_bytes (four_bytes 0xff 0xff 0 0)) (Entry (record { flags = 0x633; threshold = 5; notification = 0xffff; eoi_exit_0 = 1; eoi_exit_1 = 2; eoi_exit_2 = 3; eoi_exit_3 = 4 }))
   -- a record: mode and recognised are 0 or 1, bytes 14 and 15 are 0
   pub guest_record : ReadsRecord (record_with 1 0 none₂) (record { guest = true; rvi = 0x52; svi = 0x31; recognised = false; controls = different_controls })
   pub root_record : ReadsRecord (record_with 0 1 none₂) (record { guest = false; rvi = 0x52; svi = 0x31; recognised = true; controls = different_controls })

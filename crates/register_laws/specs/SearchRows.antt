@@ -8,29 +8,29 @@ use Rattle.registers.specs.declared.found.Found.TheVariants.{None, Vector}
 use Rattle.registers.specs.Vectors.{put, highest, found_at, highest_bit}
 use Rattle.register_laws.specs.Searches.{Search, same_found}
 
-abbrev zero_page : List ℕ
-zero_page = replicate 4096 0
+abbrev empty_page : List ℕ
+empty_page = replicate 4096 0
 
-abbrev searched : List ℕ → ℕ → Found → Search
-searched p base found = record { page = p; base = base; found = found }
+abbrev found_on : List ℕ → ℕ → Found → Search
+found_on p base found = record { page = p; base = base; found = found }
 
 -- the words at a distance from both bases
 abbrev in_both : ℕ → ℕ → ℕ → ℕ → List ℕ
 in_both distance₁ bits₁ distance₂ bits₂ =
-    with_words zero_page (word (0x100 + distance₁) bits₁ ∷ word (0x200 + distance₁) bits₁ ∷ word (0x100 + distance₂) bits₂ ∷ word (0x200 + distance₂) bits₂ ∷ [])
+    with_words empty_page (word (0x100 + distance₁) bits₁ ∷ word (0x200 + distance₁) bits₁ ∷ word (0x100 + distance₂) bits₂ ∷ word (0x200 + distance₂) bits₂ ∷ [])
 
 -- one bit of VIRR alone: that vector there, and none in VISR; and the same with the registers changed about
-abbrev bit_alone : ℕ → ℕ → ℕ → List Search
-bit_alone v distance bit =
-    searched (with_words zero_page (word (0x200 + distance) bit ∷ [])) virr (Vector v) ∷
-    searched (with_words zero_page (word (0x200 + distance) bit ∷ [])) visr None ∷
-    searched (with_words zero_page (word (0x100 + distance) bit ∷ [])) visr (Vector v) ∷
-    searched (with_words zero_page (word (0x100 + distance) bit ∷ [])) virr None ∷ []
+abbrev word_alone : ℕ → ℕ → ℕ → List Search
+word_alone v distance bit =
+    found_on (with_words empty_page (word (0x200 + distance) bit ∷ [])) virr (Vector v) ∷
+    found_on (with_words empty_page (word (0x200 + distance) bit ∷ [])) visr None ∷
+    found_on (with_words empty_page (word (0x100 + distance) bit ∷ [])) visr (Vector v) ∷
+    found_on (with_words empty_page (word (0x100 + distance) bit ∷ [])) virr None ∷ []
 
 -- two words with bits in them, in both registers: the highest of all
 abbrev of_two : ℕ → ℕ → ℕ → ℕ → ℕ → List Search
 of_two v distance₁ bits₁ distance₂ bits₂ =
-    searched (in_both distance₁ bits₁ distance₂ bits₂) virr (Vector v) ∷ searched (in_both distance₁ bits₁ distance₂ bits₂) visr (Vector v) ∷ []
+    found_on (in_both distance₁ bits₁ distance₂ bits₂) virr (Vector v) ∷ found_on (in_both distance₁ bits₁ distance₂ bits₂) visr (Vector v) ∷ []
 
 -- the bytes between a register's words are all FF, the words are 0
 abbrev between : List ℕ
@@ -43,18 +43,18 @@ between =
 -- between them are nobody's
 abbrev pub word_search_rows : List Search
 word_search_rows =
-    (searched zero_page virr None ∷ searched zero_page visr None ∷ []) ++ bit_alone 0 0x00 0x1 ++ bit_alone 255 0x70 0x8000_0000 ++
-    bit_alone 0x1f 0x00 0x8000_0000 ++ bit_alone 0x20 0x10 0x1 ++ bit_alone 0x48 0x20 0x100 ++ bit_alone 0x71 0x30 0x2_0000 ++
-    bit_alone 0x80 0x40 0x1 ++ bit_alone 0xbf 0x50 0x8000_0000 ++ bit_alone 0xc0 0x60 0x1 ++ bit_alone 0xe0 0x70 0x1 ++
+    (found_on empty_page virr None ∷ found_on empty_page visr None ∷ []) ++ word_alone 0 0x00 0x1 ++ word_alone 255 0x70 0x8000_0000 ++
+    word_alone 0x1f 0x00 0x8000_0000 ++ word_alone 0x20 0x10 0x1 ++ word_alone 0x48 0x20 0x100 ++ word_alone 0x71 0x30 0x2_0000 ++
+    word_alone 0x80 0x40 0x1 ++ word_alone 0xbf 0x50 0x8000_0000 ++ word_alone 0xc0 0x60 0x1 ++ word_alone 0xe0 0x70 0x1 ++
     of_two 0x22 0x10 0x6 0x00 0xffff_ffff ++ of_two 0x40 0x20 0x1 0x10 0x8000_0000 ++ of_two 0xe9 0x70 0x300 0x60 0x8000_0000 ++
-    (searched (replicate 4096 0xff) virr (Vector 255) ∷ searched (replicate 4096 0xff) visr (Vector 255) ∷ []) ++
-    (searched between virr None ∷ searched between visr None ∷ [])
+    (found_on (replicate 4096 0xff) virr (Vector 255) ∷ found_on (replicate 4096 0xff) visr (Vector 255) ∷ []) ++
+    (found_on between virr None ∷ found_on between visr None ∷ [])
 
 -- The highest set vector of an empty register counts as 0.
 abbrev pub highest_rows : List Bool
 highest_rows =
-    eqb (highest zero_page virr) 0 ∷ eqb (highest zero_page visr) 0 ∷ eqb (highest (with_words zero_page (word 0x230 0x2_0000 ∷ [])) virr) 0x71 ∷
-    eqb (highest (with_words zero_page (word 0x230 0x2_0000 ∷ [])) visr) 0 ∷ eqb (highest (with_words zero_page (word 0x130 0x1 ∷ [])) visr) 0x60 ∷ []
+    eqb (highest empty_page virr) 0 ∷ eqb (highest empty_page visr) 0 ∷ eqb (highest (with_words empty_page (word 0x230 0x2_0000 ∷ [])) virr) 0x71 ∷
+    eqb (highest (with_words empty_page (word 0x230 0x2_0000 ∷ [])) visr) 0 ∷ eqb (highest (with_words empty_page (word 0x130 0x1 ∷ [])) visr) 0x60 ∷ []
 
 -- a word's highest set bit below bit n, counted from 1; 0 where none is set
 abbrev pub word_rows : List Bool
