@@ -67,14 +67,6 @@ cleared-zero d (suc k) i l = by (eqb i k) refl (cleared-zero d k i)
 bit-of-zero : (k : ℕ) → bit 0 k ≡ false
 bit-of-zero k = ap (λ n. eqb (n % 2) 1) (zero-div (2 ^ k))
 
-cleared-other : (d : List ℕ) (n i : ℕ) → n ≤ i → byte_at (cleared_below d n) i ≡ byte_at d i
-unfolding cleared_below
-cleared-other d zero i l = refl
-cleared-other d (suc k) i l = get_or-set_other (cleared_below d k) k i 0 0 other ∙ cleared-other d k i (omega arith)
-  where
-    other : i ≡ k → ⊥
-    other e = omega arith
-
 module _ (d : List ℕ) where
   -- every posted bit is off, and the outstanding bit is
   pub none-posted : (v : ℕ) → v < 256 → posted (cleared d) v ≡ false
