@@ -1,6 +1,6 @@
 -- How an input that gets no refusal ends: one walk through the definitions, one case for each way to end, with all that is asked of
 -- it: condition 1, the moves and the widths are read off the cases. Assumes nothing.
-use Rattle.std.specs.Prelude.{if◌then◌else◌}
+use Rattle.std.specs.Prelude.{Ok, if◌then◌else◌}
 use Prim.Native.Nat.{ℕ, ◌+◌, ◌*◌, ◌%◌, ◌≤◌, ◌<◌}
 use native.Mathlib.Omega.{arith}
 use mathlib.Core.Path.{◌≡◌, refl, sym, ap, subst}
@@ -19,7 +19,6 @@ use Rattle.processor.specs.declared.controls.Record.{Record}
 use Rattle.processor.proofs.Tests.{left, right, none_left, none_right}
 use Rattle.events.specs.Answers.{numbers}
 use Rattle.events.specs.declared.answer.Numbers.{Numbers}
-use Rattle.events.specs.declared.answer.Refusal.TheVariants.{None}
 use Rattle.events.specs.Events.{offset_in_bounds, size_in_bounds, value_in_bounds, event_in_bounds, root_only, allowed}
 use Rattle.events.specs.declared.event.Event.{Event}
 use Rattle.events.specs.declared.event.Event.TheVariants.{Entry, Request, MemoryRead, MemoryWrite, ToCr8, FromCr8, Rdmsr, Wrmsr, Boundary}
@@ -283,5 +282,5 @@ module _ (p : List ℕ) (r : Record) where
   ends-passed (external d vector) t = ends-external d vector t.mode
   ends-passed leaves t = leaving refl
 
-  pub ends : (i : Input) → refusal_of p r i ≡ None → Ends p r i (carried_out p r i)
+  pub ends : (i : Input) → refusal_of p r i ≡ Ok tt → Ends p r i (carried_out p r i)
   ends i e = ends-passed i (passed p r i e)

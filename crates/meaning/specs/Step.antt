@@ -1,8 +1,8 @@
 -- One input: its refusal, or what carries it out, which never refuses.
-use Rattle.std.specs.Prelude.{ℕ, List}
+use Rattle.std.specs.Prelude.{ℕ, List, ⊤, Result, Ok, Err}
 use Rattle.processor.specs.declared.controls.Record.{Record}
 use Rattle.events.specs.declared.answer.Refusal.{Refusal}
-use Rattle.events.specs.declared.answer.Refusal.TheVariants.{None, By}
+use Rattle.events.specs.Answers.{refusal_number, refusal_check}
 use Rattle.events.specs.declared.event.Event.{Event}
 use Rattle.events.specs.declared.event.Event.TheVariants.{Entry, Request, MemoryRead, MemoryWrite, ToCr8, FromCr8, Rdmsr, Wrmsr, Boundary}
 use Rattle.meaning.specs.Input.{Input, given, external, leaves}
@@ -34,9 +34,9 @@ carried_out p r (external d vector) = external_interrupt p r d vector
 carried_out p r leaves = left p r
 
 -- the refusal, if there is one, or what carries the input out
-unfoldable pub step_by : Refusal → List ℕ → Record → Input → After
-step_by None p r i = carried_out p r i
-step_by (By number check) p r i = refused number check p r
+unfoldable pub step_by : Result ⊤ Refusal → List ℕ → Record → Input → After
+step_by (Ok passed) p r i = carried_out p r i
+step_by (Err refusal) p r i = refused (refusal_number refusal) (refusal_check refusal) p r
 
 unfoldable pub step : List ℕ → Record → Input → After
 step p r i = step_by (refusal_of p r i) p r i

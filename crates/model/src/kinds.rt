@@ -6,7 +6,7 @@ ghost use Rattle.meaning.specs.Step.{step as step_of};
 
 use crate::outcome::refused;
 use boundaries::{boundary, entry};
-use events::answer::{Outcome, Refusal};
+use events::answer::Outcome;
 use events::bounds::{
     ACTIVITIES, CR8_VALUES, REGISTERS, VECTORS, memory_read_in_bounds, memory_write_in_bounds,
     vector_in_bounds,
@@ -28,18 +28,18 @@ pub fn entry(page: &mut [u8], record: Record, controls: Controls) -> Outcome
         failing_check(controls, byte_at(page, VTPR)),
     );
     match refusal {
-        Refusal::None => entry::entry(page, record, controls),
-        Refusal::By { number, check } => refused(record, number, check),
+        Ok(()) => entry::entry(page, record, controls),
+        Err(refusal) => refused(record, refusal),
     }
 }
 
 pub fn request(page: &mut [u8], record: Record, vector: u16) -> Outcome
     ensures { Leaves (step_of page.old «record» (given (Request vector))) result page.new }
 {
-    let refusal = root_refusal(page, record, vector_in_bounds(vector as u32), 0);
+    let refusal = root_refusal(page, record, vector_in_bounds(vector as u32), None);
     match refusal {
-        Refusal::None => entry::request(page, record, (vector % VECTORS) as u8),
-        Refusal::By { number, check } => refused(record, number, check),
+        Ok(()) => entry::request(page, record, (vector % VECTORS) as u8),
+        Err(refusal) => refused(record, refusal),
     }
 }
 
@@ -55,8 +55,8 @@ pub fn memory_read(
 {
     let refusal = guest_refusal(page, record, memory_read_in_bounds(offset, size));
     match refusal {
-        Refusal::None => memory::memory_read(page, record, offset, size, fetch, already),
-        Refusal::By { number, check } => refused(record, number, check),
+        Ok(()) => memory::memory_read(page, record, offset, size, fetch, already),
+        Err(refusal) => refused(record, refusal),
     }
 }
 
@@ -77,8 +77,8 @@ pub fn memory_write(
         memory_write_in_bounds(offset, size, fetch, value),
     );
     match refusal {
-        Refusal::None => memory::memory_write(page, record, offset, size, fetch, already, value),
-        Refusal::By { number, check } => refused(record, number, check),
+        Ok(()) => memory::memory_write(page, record, offset, size, fetch, already, value),
+        Err(refusal) => refused(record, refusal),
     }
 }
 
@@ -87,8 +87,8 @@ pub fn to_cr8(page: &mut [u8], record: Record, value: u8, register: u8) -> Outco
 {
     let refusal = guest_refusal(page, record, (value < CR8_VALUES) & (register < REGISTERS));
     match refusal {
-        Refusal::None => cr8::mov_to_cr8(page, record, value, register),
-        Refusal::By { number, check } => refused(record, number, check),
+        Ok(()) => cr8::mov_to_cr8(page, record, value, register),
+        Err(refusal) => refused(record, refusal),
     }
 }
 
@@ -97,8 +97,8 @@ pub fn from_cr8(page: &[u8], record: Record, register: u8) -> Outcome
 {
     let refusal = guest_refusal(page, record, register < REGISTERS);
     match refusal {
-        Refusal::None => cr8::mov_from_cr8(page, record, register),
-        Refusal::By { number, check } => refused(record, number, check),
+        Ok(()) => cr8::mov_from_cr8(page, record, register),
+        Err(refusal) => refused(record, refusal),
     }
 }
 
@@ -107,8 +107,8 @@ pub fn rdmsr(page: &[u8], record: Record, index: u32) -> Outcome
 {
     let refusal = guest_refusal(page, record, true);
     match refusal {
-        Refusal::None => msr::read_msr(page, record, index),
-        Refusal::By { number, check } => refused(record, number, check),
+        Ok(()) => msr::read_msr(page, record, index),
+        Err(refusal) => refused(record, refusal),
     }
 }
 
@@ -117,8 +117,8 @@ pub fn wrmsr(page: &mut [u8], record: Record, index: u32, value: u64) -> Outcome
 {
     let refusal = guest_refusal(page, record, true);
     match refusal {
-        Refusal::None => msr::write_msr(page, record, index, value),
-        Refusal::By { number, check } => refused(record, number, check),
+        Ok(()) => msr::write_msr(page, record, index, value),
+        Err(refusal) => refused(record, refusal),
     }
 }
 
@@ -134,7 +134,7 @@ pub fn boundary(
 {
     let refusal = guest_refusal(page, record, activity < ACTIVITIES);
     match refusal {
-        Refusal::None => boundary::boundary(page, record, interrupts, sti, mov_ss, activity),
-        Refusal::By { number, check } => refused(record, number, check),
+        Ok(()) => boundary::boundary(page, record, interrupts, sti, mov_ss, activity),
+        Err(refusal) => refused(record, refusal),
     }
 }

@@ -7,7 +7,7 @@ ghost use Rattle.meaning.specs.Input.{given, external, leaves};
 ghost use Rattle.meaning.specs.Step.{step as step_of, descriptor_after};
 ghost use Rattle.std.specs.Prelude.{List, ℕ};
 
-use events::answer::{Outcome, Refusal};
+use events::answer::Outcome;
 use events::event::Event;
 use processor::controls::Record;
 
@@ -64,8 +64,8 @@ pub fn external_interrupt(
 {
     let refusal = external_refusal_of(page, record, descriptor, vector);
     match refusal {
-        Refusal::None => posting::external_interrupt(page, record, descriptor, vector),
-        Refusal::By { number, check } => outcome::refused(record, number, check),
+        Ok(()) => posting::external_interrupt(page, record, descriptor, vector),
+        Err(refusal) => outcome::refused(record, refusal),
     }
 }
 
@@ -75,7 +75,7 @@ pub fn leave(record: Record) -> Outcome
 {
     let refusal = leave_refusal_of(record);
     match refusal {
-        Refusal::None => outcome::left(record),
-        Refusal::By { number, check } => outcome::refused(record, number, check),
+        Ok(()) => outcome::left(record),
+        Err(refusal) => outcome::refused(record, refusal),
     }
 }

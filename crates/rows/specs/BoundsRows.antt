@@ -6,6 +6,7 @@ use Rattle.processor.specs.declared.controls.Controls.{Controls}
 use Rattle.processor.specs.declared.controls.Record.{Record}
 use Rattle.events.specs.declared.event.Event.{Event}
 use Rattle.events.specs.declared.event.Event.TheVariants.{Entry, Request, MemoryRead, MemoryWrite, ToCr8, FromCr8, Rdmsr, Wrmsr, Boundary}
+use Rattle.events.specs.declared.answer.Refusal.TheVariants.{PageLength, DescriptorLength, Bounds, Mode, EntryCheck}
 use Rattle.events.specs.declared.answer.Answer.TheVariants.{Refused, Redirected, Passthrough, Fault, Exit, Delivered, Quiet}
 use Rattle.events.specs.Answers.{numbers_of}
 use Rattle.rows.specs.RowBench.{tells}
@@ -76,7 +77,9 @@ mode_rows =
 -- each answer has its number and its values; numbers not named are 0
 abbrev pub answer_rows : List Bool
 answer_rows =
-    tells (numbers_of (Refused 4 6)) 0 4 6 ∷ tells (numbers_of (Redirected 0x5c)) 1 0x5c 0 ∷ tells (numbers_of Passthrough) 2 0 0 ∷ tells (numbers_of Fault) 3 0 0 ∷
+    tells (numbers_of (Refused PageLength)) 0 1 0 ∷ tells (numbers_of (Refused DescriptorLength)) 0 5 0 ∷ tells (numbers_of (Refused Bounds)) 0 2 0 ∷
+    tells (numbers_of (Refused Mode)) 0 3 0 ∷ tells (numbers_of (Refused (EntryCheck 6))) 0 4 6 ∷
+    tells (numbers_of (Redirected 0x5c)) 1 0x5c 0 ∷ tells (numbers_of Passthrough) 2 0 0 ∷ tells (numbers_of Fault) 3 0 0 ∷
     tells (numbers_of (Exit 28 0x308)) 4 28 0x308 ∷ tells (numbers_of (Delivered 0x71)) 5 0x71 0 ∷ tells (numbers_of Quiet) 6 0 0 ∷ []
 
 abbrev pub bounds_rows : List Bool

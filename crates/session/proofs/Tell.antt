@@ -31,7 +31,7 @@ use Rattle.session.specs.Told.{session_of, ControlsTold, EntryTold, Tells}
 
 -- an answer's number has one digit
 one-digit : (a : Answer) → (numbers_of a).answer < 10
-one-digit (Refused number check) = omega arith
+one-digit (Refused refusal) = omega arith
 one-digit (Redirected value) = omega arith
 one-digit Passthrough = omega arith
 one-digit Fault = omega arith

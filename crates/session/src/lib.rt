@@ -7,7 +7,7 @@ ghost use Rattle.trace.specs.Format.{kind_of};
 ghost use Rattle.std.specs.Prelude.{eqb, false, ◌≡◌};
 
 use crate::kinds::event_outcome;
-use events::answer::{Numbers, numbered, numbers_of};
+use events::answer::{Numbers, numbered};
 use model::fresh_record;
 use model::kinds::entry;
 use page::bytes::byte_at;
@@ -91,7 +91,7 @@ fn entry_told(page: &mut [u8], state: State) -> Told
     let after = outcome.record;
     let record = with_controls(after, after.controls);
     Told {
-        numbers: numbers_of(answer),
+        numbers: Numbers::from(answer),
         state: State { record, controls },
     }
 }
@@ -106,7 +106,7 @@ fn event_told(page: &mut [u8], state: State, body: &[u8]) -> Told
     let record = with_controls(outcome.record, held.controls);
     let controls = by_fields(state.controls);
     Told {
-        numbers: numbers_of(answer),
+        numbers: Numbers::from(answer),
         state: State { record, controls },
     }
 }

@@ -53,7 +53,7 @@ fn say_delivered(rt: &impl Print, vector: u64) -> io::Result<()> {
 
 pub fn say_answer(rt: &impl Print, answer: Answer) -> io::Result<()> {
     match answer {
-        Answer::Refused { number, check } => say_refused(rt, number as u64, check as u64),
+        Answer::Refused(refusal) => say_refused(rt, refusal.number() as u64, refusal.check() as u64),
         Answer::Redirected(value) => say_redirected(rt, value),
         Answer::Passthrough => say(rt, b"passthrough                  [2 0 0]     "),
         Answer::Fault => say(rt, b"general-protection fault     [3 0 0]     "),
