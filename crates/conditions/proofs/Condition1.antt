@@ -123,13 +123,13 @@ module _ (p : List ℕ) (r : Record) where
   unchecked : (e : Event) → ((c : Controls) → e ≡ Entry c → eqb (failing_check c (byte_at p vtpr)) 0 ≡ true) → eqb (event_check p e) 0 ≡ true
   unchecked (Entry c) h = h c refl
   unchecked (Request vector) h = refl
-  unchecked (MemoryRead offset size fetch already) h = refl
-  unchecked (MemoryWrite offset size fetch already value) h = refl
+  unchecked (MemoryRead access) h = refl
+  unchecked (MemoryWrite access value) h = refl
   unchecked (ToCr8 value register) h = refl
   unchecked (FromCr8 register) h = refl
   unchecked (Rdmsr index) h = refl
   unchecked (Wrmsr index value) h = refl
-  unchecked (Boundary interrupts sti movSs activity) h = refl
+  unchecked (Boundary at) h = refl
 
   -- condition 1, of any event
   pub answered : (e : Event) → Answered p r e (step p r (given e))

@@ -6,6 +6,7 @@ use mathlib.Core.Path.{◌≡◌, refl, ◌∙◌}
 use mathlib.Core.Bool.{Bool, true, false, ◌&&◌, ◌||◌, true≢false, false≢true}
 use mathlib.Core.Logic.{◌⊎◌, inl, inr}
 use mathlib.Core.List.{List}
+use Rattle.processor.specs.Access.{between}
 use Rattle.processor.specs.Controls.{interrupt_window_exiting}
 use Rattle.processor.specs.declared.controls.Record.{Record}
 use Rattle.events.specs.Answers.{numbers}
@@ -25,7 +26,7 @@ Acts r n = (n ≡ numbers 4 7 0) ⊎ (n ≡ numbers 5 r.rvi 0)
 
 module _ (p : List ℕ) (r : Record) (interrupts sti movSs : Bool) (activity : ℕ) where
   abbrev here : Input
-  here = given (Boundary interrupts sti movSs activity)
+  here = given (Boundary (between interrupts sti movSs activity))
 
   quiet-closed : (o w c : Bool) → (o && (w || c)) ≡ false → (if o && w then exit 7 0 p r else (if o && c then delivery p r else quiet p r)) ≡ quiet p r
   quiet-closed true true c e = absurd (true≢false e)

@@ -42,13 +42,13 @@ mode_fits r leaves = r.guest
 abbrev pub event_check : List ℕ → Event → ℕ
 event_check p (Entry controls) = failing_check controls (byte_at p vtpr)
 event_check p (Request vector) = 0
-event_check p (MemoryRead offset size fetch already) = 0
-event_check p (MemoryWrite offset size fetch already value) = 0
+event_check p (MemoryRead access) = 0
+event_check p (MemoryWrite access value) = 0
 event_check p (ToCr8 value register) = 0
 event_check p (FromCr8 register) = 0
 event_check p (Rdmsr index) = 0
 event_check p (Wrmsr index value) = 0
-event_check p (Boundary interrupts sti movSs activity) = 0
+event_check p (Boundary at) = 0
 
 abbrev pub check_of : List ℕ → Input → ℕ
 check_of p (given e) = event_check p e

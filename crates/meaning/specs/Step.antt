@@ -19,13 +19,13 @@ use Rattle.meaning.specs.Leave.{left}
 unfoldable pub event_out : List ℕ → Record → Event → After
 event_out p r (Entry controls) = entry p r controls
 event_out p r (Request vector) = request p r vector
-event_out p r (MemoryRead offset size fetch already) = memory_read p r offset size fetch already
-event_out p r (MemoryWrite offset size fetch already value) = memory_write p r offset size fetch already value
+event_out p r (MemoryRead access) = memory_read p r access.offset access.size access.fetch access.already
+event_out p r (MemoryWrite access value) = memory_write p r access.offset access.size access.fetch access.already value
 event_out p r (ToCr8 value register) = mov_to_cr8 p r value register
 event_out p r (FromCr8 register) = mov_from_cr8 p r register
 event_out p r (Rdmsr index) = read_msr p r index
 event_out p r (Wrmsr index value) = write_msr p r index value
-event_out p r (Boundary interrupts sti movSs activity) = boundary p r interrupts sti movSs activity
+event_out p r (Boundary at) = boundary p r at.interrupts at.sti at.mov_ss at.activity
 
 -- what carries an input out
 unfoldable pub carried_out : List ℕ → Record → Input → After

@@ -13,6 +13,8 @@ use events::bounds::{
 };
 use handlers::{cr8, memory, msr};
 use page::bytes::byte_at;
+use processor::access::MemoryAccess;
+use processor::boundary::Between;
 use processor::controls::{Controls, Record};
 use processor::offsets::VTPR;
 use refusals::list::{guest_refusal, root_refusal};
@@ -43,41 +45,22 @@ pub fn request(page: &mut [u8], record: Record, vector: u16) -> Outcome
     }
 }
 
-pub fn memory_read(
-    page: &[u8],
-    record: Record,
-    offset: u16,
-    size: u8,
-    fetch: bool,
-    already: bool,
-) -> Outcome
-    ensures { Leaves (step_of page.now «record» (given (MemoryRead offset size fetch already))) result page.now }
+pub fn memory_read(page: &[u8], record: Record, access: MemoryAccess) -> Outcome
+    ensures { Leaves (step_of page.now «record» (given (MemoryRead access))) result page.now }
 {
-    let refusal = guest_refusal(page, record, memory_read_in_bounds(offset, size));
+    let refusal = guest_refusal(page, record, memory_read_in_bounds(access));
     match refusal {
-        Ok(()) => memory::memory_read(page, record, offset, size, fetch, already),
+        Ok(()) => memory::memory_read(page, record, access),
         Err(refusal) => refused(record, refusal),
     }
 }
 
-pub fn memory_write(
-    page: &mut [u8],
-    record: Record,
-    offset: u16,
-    size: u8,
-    fetch: bool,
-    already: bool,
-    value: u64,
-) -> Outcome
-    ensures { Leaves (step_of page.old «record» (given (MemoryWrite offset size fetch already value))) result page.new }
+pub fn memory_write(page: &mut [u8], record: Record, access: MemoryAccess, value: u64) -> Outcome
+    ensures { Leaves (step_of page.old «record» (given (MemoryWrite access value))) result page.new }
 {
-    let refusal = guest_refusal(
-        page,
-        record,
-        memory_write_in_bounds(offset, size, fetch, value),
-    );
+    let refusal = guest_refusal(page, record, memory_write_in_bounds(access, value));
     match refusal {
-        Ok(()) => memory::memory_write(page, record, offset, size, fetch, already, value),
+        Ok(()) => memory::memory_write(page, record, access, value),
         Err(refusal) => refused(record, refusal),
     }
 }
@@ -122,19 +105,12 @@ pub fn wrmsr(page: &mut [u8], record: Record, index: u32, value: u64) -> Outcome
     }
 }
 
-pub fn boundary(
-    page: &mut [u8],
-    record: Record,
-    interrupts: bool,
-    sti: bool,
-    mov_ss: bool,
-    activity: u8,
-) -> Outcome
-    ensures { Leaves (step_of page.old «record» (given (Boundary interrupts sti mov_ss activity))) result page.new }
+pub fn boundary(page: &mut [u8], record: Record, at: Between) -> Outcome
+    ensures { Leaves (step_of page.old «record» (given (Boundary at))) result page.new }
 {
-    let refusal = guest_refusal(page, record, activity < ACTIVITIES);
+    let refusal = guest_refusal(page, record, at.activity < ACTIVITIES);
     match refusal {
-        Ok(()) => boundary::boundary(page, record, interrupts, sti, mov_ss, activity),
+        Ok(()) => boundary::boundary(page, record, at),
         Err(refusal) => refused(record, refusal),
     }
 }

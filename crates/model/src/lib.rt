@@ -27,29 +27,13 @@ pub fn step(page: &mut [u8], record: Record, event: Event) -> Outcome
     match event {
         Event::Entry(controls) => kinds::entry(page, record, controls),
         Event::Request(vector) => kinds::request(page, record, vector),
-        Event::MemoryRead {
-            offset,
-            size,
-            fetch,
-            already,
-        } => kinds::memory_read(page, record, offset, size, fetch, already),
-        Event::MemoryWrite {
-            offset,
-            size,
-            fetch,
-            already,
-            value,
-        } => kinds::memory_write(page, record, offset, size, fetch, already, value),
+        Event::MemoryRead(access) => kinds::memory_read(page, record, access),
+        Event::MemoryWrite { access, value } => kinds::memory_write(page, record, access, value),
         Event::ToCr8 { value, register } => kinds::to_cr8(page, record, value, register),
         Event::FromCr8(register) => kinds::from_cr8(page, record, register),
         Event::Rdmsr(index) => kinds::rdmsr(page, record, index),
         Event::Wrmsr { index, value } => kinds::wrmsr(page, record, index, value),
-        Event::Boundary {
-            interrupts,
-            sti,
-            mov_ss,
-            activity,
-        } => kinds::boundary(page, record, interrupts, sti, mov_ss, activity),
+        Event::Boundary(at) => kinds::boundary(page, record, at),
     }
 }
 
