@@ -9,12 +9,11 @@ fn byte_from(page: &[u8], at: usize) -> u8
     page.get(at).copied().unwrap_or(0)
 }
 
-// N bytes that the slice has all of, or none.
-fn bytes_within<const N: usize>(page: &[u8], offset: u16) -> Option<[u8; N]>
-    ensures { MatchOption result (length page.now < offset + N) (λ bytes. (offset + N ≤ length page.now) × AreBytes page.now offset N bytes) }
+// N bytes where the slice has them all.
+pub fn bytes_within<const N: usize>(page: &[u8], at: usize) -> Option<[u8; N]>
+    ensures { MatchOption result (length page.now < at + N) (λ bytes. (at + N ≤ length page.now) × AreBytes page.now at N bytes) }
 {
-    let at = offset as usize;
-    page.get(at..at + N)?.first_chunk().copied()
+    page.get(at..at.checked_add(N)?)?.first_chunk().copied()
 }
 
 // N bytes of which the slice may lack some.
@@ -32,7 +31,7 @@ fn bytes_past<const N: usize>(page: &[u8], offset: u16) -> [u8; N]
 fn bytes_at<const N: usize>(page: &[u8], offset: u16) -> [u8; N]
     ensures { AreBytes page.now offset N result }
 {
-    match bytes_within(page, offset) {
+    match bytes_within(page, offset as usize) {
         Some(bytes) => bytes,
         None => bytes_past(page, offset),
     }
@@ -66,12 +65,12 @@ pub fn long_at(page: &[u8], offset: u16) -> u64
 pub fn word_within(page: &[u8], offset: u16) -> u32
     ensures { result ≡ word_within page.now offset }
 {
-    bytes_within(page, offset).map_or(0, u32::from_le_bytes)
+    bytes_within(page, offset as usize).map_or(0, u32::from_le_bytes)
 }
 
 // Eight bytes where the slice has them all, else 0.
 pub fn long_within(page: &[u8], offset: u16) -> u64
     ensures { result ≡ long_within page.now offset }
 {
-    bytes_within(page, offset).map_or(0, u64::from_le_bytes)
+    bytes_within(page, offset as usize).map_or(0, u64::from_le_bytes)
 }
