@@ -1,87 +1,106 @@
--- The search for the highest set place: a word's by its logarithm, and word by word down a row of 256 bits. Assumes nothing.
-use Rattle.std.specs.Prelude.{Option, None, Some, unwrap_or, option_map, IfNone, IfSome, if◌then◌else◌}
+-- The search for the highest set place: a word's by its leading zeros, word by word down a row of 256 bits; the words of a register.
+-- Assumes nothing.
+use Rattle.std.specs.Prelude.{Option, None, Some, IfNone, IfSome, if◌then◌else◌}
 use Prim.Native.Nat.{ℕ, zero, suc, ◌+◌, ◌-◌, ◌*◌, ◌/◌, ◌%◌, ◌^◌, ◌<◌, ◌≤◌}
-use native.Mathlib.Nat.{not-suc-le-zero, le_refl, zero-add, add-zero, add-suc, mul_comm, pow-succ', pow-le-pow_right, div-eq_of_lt, div-eq_of_lt-le}
+use native.Mathlib.Nat.{not-suc-le-zero, le_refl, zero-add, add-zero, add-suc, mul_comm, sub-add_cancel, pow-succ', le-div_iff_mul-le, div-lt_iff_lt-mul}
 use native.Mathlib.Omega.{arith}
 use mathlib.Core.Path.{◌≡◌, refl, sym, ◌∙◌, ap}
 use mathlib.Core.Bool.{Bool, true, false}
 use mathlib.Core.List.{List}
-use lib.Dec.{eqb}
+use lib.Count.{count_leading_zeros, leading_unique}
 use lib.Pow.{pow_pos}
 use borrow.Author.Tests.{eqb-true, eqb-false}
 use Rattle.processor.specs.Logic.{bit}
 use Rattle.page.specs.Page.{byte_at, word_at}
-use Rattle.registers.specs.Vectors.{is_set, highest_of, highest_set, word_bits, highest_bit}
+use Rattle.registers.specs.Vectors.{is_set, highest_of, highest_set, word_bits, highest_bit, counted}
 use Rattle.registers.proofs.Top.{found-ext}
 use Rattle.registers.proofs.Words.{vector-in-word}
 
--- ---- the highest set bit of a word
--- counted from 1, with 0 for none, it is the definition's number
-pub bit-counted : (word n : ℕ) → unwrap_or (option_map suc (highest_of (bit word) n)) 0 ≡ highest_bit word n
+-- ---- the highest set bit of a word, by its leading zeros
+pub bit-most : (word n : ℕ) → highest_bit word n ≤ n
+unfolding highest_bit
+bit-most word zero = le_refl 0
+bit-most word (suc k) = by (bit word k) (highest_bit word k) (bit-most word k)
+  where
+    by : (b : Bool) (t : ℕ) → t ≤ k → (if b then suc k else t) ≤ suc k
+    by true t l = le_refl (suc k)
+    by false t l = omega arith
+
+-- m bits hold the word, and no fewer do
+abbrev Length : ℕ → ℕ → Type 0
+Length word m = (word < 2 ^ m) × (2 ^ m ≤ 2 * word + 1)
+
+-- counted from 1, the highest set bit is the word's length
+bit_length : (word n : ℕ) → word < 2 ^ n → Length word (highest_bit word n)
+unfolding highest_bit
+bit_length word zero h = (h, omega arith)
+bit_length word (suc k) h = by (bit word k) refl (bit_length word k)
+  where
+    quotient : word / 2 ^ k < 2
+    quotient = (div-lt_iff_lt-mul (pow_pos k)).1 (rw (sym (pow-succ' 2 k)) h)
+
+    set : word / 2 ^ k % 2 ≡ 1 → 1 ≤ word / 2 ^ k
+    set e = omega arith
+
+    double : 1 * 2 ^ k ≤ word → 2 * 2 ^ k ≤ 2 * word + 1
+    double l = omega arith
+
+    clear : (word / 2 ^ k % 2 ≡ 1 → ⊥) → word / 2 ^ k < 2 → word / 2 ^ k < 1
+    clear e l = omega arith
+
+    below : word < 1 * 2 ^ k → word < 2 ^ k
+    below l = omega arith
+
+    by : (b : Bool) → bit word k ≡ b → (word < 2 ^ k → Length word (highest_bit word k)) → Length word (if b then suc k else highest_bit word k)
+    by true e ih = (h, rw (pow-succ' 2 k) (double ((le-div_iff_mul-le (pow_pos k)).0 (set (eqb-true (word / 2 ^ k % 2) 1 e)))))
+    by false e ih = ih (below ((div-lt_iff_lt-mul (pow_pos k)).0 (clear (eqb-false (word / 2 ^ k % 2) 1 e) quotient)))
+
+-- so it is what the leading zeros leave of a word's n bits
+pub leading-highest : (word n : ℕ) → word < 2 ^ n → n - count_leading_zeros n word ≡ highest_bit word n
+leading-highest word n h =
+    let length = bit_length word n h in
+    rest (count_leading_zeros n word) (highest_bit word n) (bit-most word n)
+    (leading_unique n word (n - highest_bit word n) (highest_bit word n) (sub-add_cancel (bit-most word n)) length.0 length.1)
+  where
+    rest : (zeros high : ℕ) → high ≤ n → n - high ≡ zeros → n - zeros ≡ high
+    rest zeros high l e = omega arith
+
+-- and its logarithm, which is none of 0
+pub log-highest : (word : ℕ) (found : Option ℕ) → word < 2 ^ 32 → IfNone found (word ≡ 0) → IfSome found (λ k. 2 ^ k ≤ word) → IfSome found (λ k. word < 2 * 2 ^ k) → IfSome found (λ k. k < 32) → counted found ≡ highest_bit word 32
+unfolding highest_bit
+log-highest word None fits z l h b = sym (ap (λ w. highest_bit w 32) z)
+log-highest word (Some k) fits z l h b =
+    back (count_leading_zeros 32 word) b (leading_unique 32 word (32 - suc k) (suc k) (sub-add_cancel b) (rw (pow-succ' 2 k) h) (rw (pow-succ' 2 k) (double l)))
+    ∙ leading-highest word 32 fits
+  where
+    double : 2 ^ k ≤ word → 2 * 2 ^ k ≤ 2 * word + 1
+    double l = omega arith
+
+    back : (lead : ℕ) → k < 32 → 32 - suc k ≡ lead → suc k ≡ 32 - lead
+    back lead b e = omega arith
+
+-- ---- down a row of 256 bits that stands in words, from word `left`
+-- the search of m places and n more above them, by the highest of those n
+abbrev pub after : (ℕ → Bool) → ℕ → ℕ → Option ℕ
+after f m zero = highest_of f m
+after f m (suc k) = Some (m + k)
+
+block : (f : ℕ → Bool) (word m n : ℕ) → ((k : ℕ) → k < n → f (m + k) ≡ bit word k) → highest_of f (m + n) ≡ after f m (highest_bit word n)
 unfolding highest_of highest_bit
-bit-counted word zero = refl
-bit-counted word (suc k) = by (bit word k) (bit-counted word k)
-  where
-    by : (b : Bool) → unwrap_or (option_map suc (highest_of (bit word) k)) 0 ≡ highest_bit word k → unwrap_or (option_map suc (if b then Some k else highest_of (bit word) k)) 0 ≡ (if b then suc k else highest_bit word k)
-    by true e = refl
-    by false e = e
-
--- a bit that the word doesn't reach
-bit-high : (word k : ℕ) → word < 2 ^ k → bit word k ≡ false
-bit-high word k l = ap (λ x. eqb (x % 2) 1) (div-eq_of_lt l)
-
--- none of zero
-bit-none : (n : ℕ) → None ≡ highest_of (bit 0) n
-unfolding highest_of
-bit-none zero = refl
-bit-none (suc k) = rw (bit-high 0 k (pow_pos k)) (bit-none k)
-
--- k of a word from 2 ^ k to below 2 ^ (k + 1)
-bit-some : (word k n : ℕ) → 2 ^ k ≤ word → word < 2 * 2 ^ k → k < n → Some k ≡ highest_of (bit word) n
-unfolding highest_of
-bit-some word k zero l h m = absurd (not-suc-le-zero m)
-bit-some word k (suc v) l h m = by (eqb k v) refl (bit-some word k v l h)
-  where
-    own : bit word k ≡ true
-    own = ap (λ x. eqb (x % 2) 1) (div-eq_of_lt-le {k = 1} (2 ^ k) (omega arith) (omega arith))
-
-    under : (k ≡ v → ⊥) → k < v
-    under n = omega arith
-
-    past : 2 * 2 ^ k ≤ 2 ^ v → word < 2 ^ v
-    past e = omega arith
-
-    by : (b : Bool) → eqb k v ≡ b → (k < v → Some k ≡ highest_of (bit word) v) → Some k ≡ (if bit word v then Some v else highest_of (bit word) v)
-    by true e rest = rw (sym (eqb-true k v e), own) refl
-    by false e rest = rw (bit-high word v (past (rw (sym (pow-succ' 2 k)) (pow-le-pow_right (omega arith) (under (eqb-false k v e)))))) (rest (under (eqb-false k v e)))
-
--- what the logarithm says
-pub bit-highest : (word : ℕ) (found : Option ℕ) → IfNone found (word ≡ 0) → IfSome found (λ k. 2 ^ k ≤ word) → IfSome found (λ k. word < 2 * 2 ^ k) → IfSome found (λ k. k < 32) → found ≡ highest_of (bit word) 32
-bit-highest word None z l h b = ap (λ w. None) z ∙ bit-none 32 ∙ ap (λ w. highest_of (bit w) 32) (sym z)
-bit-highest word (Some k) z l h b = bit-some word k 32 l h b
-
--- ---- down a row of 256 bits that stands in words
--- the search of m places and of a word's bits above them, by the highest of the word's
-abbrev pub after : (ℕ → Bool) → ℕ → Option ℕ → Option ℕ
-after f m None = highest_of f m
-after f m (Some k) = Some (m + k)
-
-block : (f : ℕ → Bool) (word m n : ℕ) → ((k : ℕ) → k < n → f (m + k) ≡ bit word k) → highest_of f (m + n) ≡ after f m (highest_of (bit word) n)
-unfolding highest_of
 block f word m zero h = ap (λ x. highest_of f x) (add-zero m)
 block f word m (suc k) h = ap (λ x. highest_of f x) (add-suc m k) ∙ by (bit word k) (h k (le_refl (suc k))) (block f word m k (λ j l. h j (omega arith)))
   where
-    by : (b : Bool) → f (m + k) ≡ b → highest_of f (m + k) ≡ after f m (highest_of (bit word) k) → (if f (m + k) then Some (m + k) else highest_of f (m + k)) ≡ after f m (if b then Some k else highest_of (bit word) k)
+    by : (b : Bool) → f (m + k) ≡ b → highest_of f (m + k) ≡ after f m (highest_bit word k) → (if f (m + k) then Some (m + k) else highest_of f (m + k)) ≡ after f m (if b then suc k else highest_bit word k)
     by true e ih = simp e
     by false e ih = simp e ih
 
 -- what a word's search says, where nothing above the word is set
-pub word-found : (p : List ℕ) (step left : ℕ) (found : Option ℕ) → 0 < left → highest_of (word_bits p step) 256 ≡ highest_of (word_bits p step) (32 * left) → found ≡ highest_of (bit (word_at p (step * (left - 1)))) 32 → highest_of (word_bits p step) 256 ≡ after (word_bits p step) (32 * (left - 1)) found
+pub word-found : (p : List ℕ) (step left : ℕ) (found : Option ℕ) → 0 < left → highest_of (word_bits p step) 256 ≡ highest_of (word_bits p step) (32 * left) → counted found ≡ highest_bit (word_at p (step * (left - 1))) 32 → highest_of (word_bits p step) 256 ≡ after (word_bits p step) (32 * (left - 1)) (counted found)
 word-found p step left found some rest e =
     rest
     ∙ ap (λ n. highest_of (word_bits p step) n) down
     ∙ block (word_bits p step) (word_at p (step * (left - 1))) (32 * (left - 1)) 32 (λ k h. simp (row (left - 1) k h, column (left - 1) k h))
-    ∙ ap (λ o. after (word_bits p step) (32 * (left - 1)) o) (sym e)
+    ∙ ap (λ n. after (word_bits p step) (32 * (left - 1)) n) (sym e)
   where
     down : 32 * left ≡ 32 * (left - 1) + 32
     down = omega arith

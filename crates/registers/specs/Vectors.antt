@@ -63,6 +63,11 @@ unfoldable pub highest_bit : ℕ → ℕ → ℕ
 highest_bit word zero = 0
 highest_bit word (suc k) = if bit word k then suc k else highest_bit word k
 
--- a search's answer as one number: none at 256, past every vector; else the vector
+-- a place that is found, counted from 1; 0 where none is
+abbrev pub counted : Option ℕ → ℕ
+counted None = 0
+counted (Some place) = suc place
+
+-- what a number says is found: none at 256, past every vector; else the vector
 abbrev pub found_at : ℕ → Option ℕ
 found_at place = if eqb place 256 then None else Some place

@@ -1,7 +1,6 @@
 // The 256-bit registers of a page.
-ghost use Rattle.std.specs.Prelude.{◌≡◌, suc, option_map, unwrap_or};
-ghost use Rattle.processor.specs.Logic.{bit};
-ghost use Rattle.registers.specs.Vectors.{highest_bit, highest_of, highest_set, word_bits};
+ghost use Rattle.std.specs.Prelude.{◌≡◌, unwrap_or};
+ghost use Rattle.registers.specs.Vectors.{counted, highest_bit, highest_of, highest_set, word_bits};
 
 use page::bytes::word_at;
 
@@ -13,8 +12,7 @@ pub const REGISTER_STEP: u8 = 16;
 
 // The highest set bit of a word, or none.
 pub fn highest_bit(word: u32) -> Option<u32>
-    ensures place { result ≡ highest_of (bit word) 32 }
-    ensures counted { unwrap_or (option_map suc result) 0 ≡ highest_bit word 32 }
+    ensures { counted result ≡ highest_bit word 32 }
 {
     u32::checked_ilog2(word)
 }
