@@ -2,9 +2,8 @@
 use events::answer::Answer;
 use page::bytes::{byte_at, word_at};
 use processor::controls::Record;
-use processor::offsets::{VIRR, VPPR};
-use registers::found::Found;
-use registers::vectors::{highest_request, highest_service};
+use processor::offsets::{VIRR, VISR, VPPR};
+use registers::vectors::highest_set;
 use std::io;
 
 // The word of VIRR that holds vectors 60H to 7FH.
@@ -67,13 +66,13 @@ pub fn say_answer(rt: &impl Print, answer: Answer) -> io::Result<()> {
 }
 
 // What the search finds: "none" for an empty register, 00H for bit 0 alone.
-fn say_found(rt: &impl Print, words: &[u8], found: Found) -> io::Result<()> {
+fn say_found(rt: &impl Print, words: &[u8], found: Option<u8>) -> io::Result<()> {
     match found {
-        Found::None => {
+        None => {
             say(rt, words)?;
             say(rt, b"none")
         }
-        Found::Vector(vector) => {
+        Some(vector) => {
             say_hex(rt, words, vector as u64, 2)?;
             say(rt, b"H")
         }
@@ -85,8 +84,8 @@ pub fn say_status(rt: &impl Print, page: &[u8], record: Record) -> io::Result<()
     say_hex(rt, b"RVI ", record.rvi as u64, 2)?;
     say_hex(rt, b" SVI ", record.svi as u64, 2)?;
     say_hex(rt, b" VPPR ", byte_at(page, VPPR) as u64, 2)?;
-    say_found(rt, b", highest request ", highest_request(page))?;
-    say_found(rt, b", service ", highest_service(page))?;
+    say_found(rt, b", highest request ", highest_set(page, VIRR))?;
+    say_found(rt, b", service ", highest_set(page, VISR))?;
     say(rt, b"\n")
 }
 
