@@ -1,2 +1,3 @@
 pub mod Events
 pub mod Answers
+pub mod Kinds

@@ -4,3 +4,4 @@
 pub mod answer;
 pub mod bounds;
 pub mod event;
+pub mod kind;

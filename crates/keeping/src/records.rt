@@ -1,38 +1,28 @@
 // The record stored in its 48 bytes, where the answer stores it.
 ghost use Rattle.std.specs.Prelude.{◌≡◌, ltb};
-ghost use Rattle.keeping.specs.KeptBytes.{truth_byte, status_bytes, record_bytes, kept, kept_status};
+ghost use Rattle.keeping.specs.KeptBytes.{status_bytes, record_bytes, kept, kept_status};
 
 use crate::controls::controls_bytes;
 use layout::records::{MODE, RECOGNISED, RVI, SVI};
 use processor::controls::Record;
 use stores::bytes::set_byte;
 
-fn truth_byte(on: bool) -> u8
-    ensures { result ≡ truth_byte on }
-{
-    if on {
-        return 1;
-    }
-    0
-}
-
 // The bytes take mode, RVI, SVI and recognition.
 fn status_bytes(bytes: &mut [u8], state: Record)
     ensures { bytes.new ≡ status_bytes bytes.old state }
 {
-    set_byte(bytes, MODE, truth_byte(state.guest));
+    set_byte(bytes, MODE, u8::from(state.guest));
     set_byte(bytes, RVI, state.rvi);
     set_byte(bytes, SVI, state.svi);
-    set_byte(bytes, RECOGNISED, truth_byte(state.recognised));
+    set_byte(bytes, RECOGNISED, u8::from(state.recognised));
 }
 
 // The bytes take the record.
 fn record_bytes(bytes: &mut [u8], state: Record)
     ensures { bytes.new ≡ record_bytes bytes.old state }
 {
-    let controls = state.controls;
     status_bytes(bytes, state);
-    controls_bytes(bytes, controls);
+    controls_bytes(bytes, state.controls);
 }
 
 // Answers 0 to 3 change nothing; an exit, a delivery and quiet store the record.
@@ -46,18 +36,16 @@ fn stays(answer: u32) -> bool
 pub fn keep(bytes: &mut [u8], answer: u32, state: Record)
     ensures { bytes.new ≡ kept bytes.old answer state }
 {
-    if stays(answer) {
-        return;
+    if !stays(answer) {
+        record_bytes(bytes, state);
     }
-    record_bytes(bytes, state);
 }
 
 // The same of all but the controls, which stay.
 pub fn keep_status(bytes: &mut [u8], answer: u32, state: Record)
     ensures { bytes.new ≡ kept_status bytes.old answer state }
 {
-    if stays(answer) {
-        return;
+    if !stays(answer) {
+        status_bytes(bytes, state);
     }
-    status_bytes(bytes, state);
 }

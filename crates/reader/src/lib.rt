@@ -15,54 +15,56 @@ pub struct Reader<'a> {
     pub place: usize,
 }
 
-// At the first record, after the version byte.
-pub fn new<'a>(trace: &'a [u8]) -> Reader<'a>
-    ensures { (result.trace ≡ trace.entry) × (result.place ≡ 1) }
-{
-    Reader { trace, place: 1 }
-}
+impl<'a> Reader<'a> {
+    // At the first record, after the version byte.
+    pub fn new(trace: &'a [u8]) -> Reader<'a>
+        ensures { (result.trace ≡ trace.entry) × (result.place ≡ 1) }
+    {
+        Reader { trace, place: 1 }
+    }
 
-// The body of the record at its place, as part of the trace.
-pub fn body<'a>(reader: Reader<'a>) -> &'a [u8]
-    ensures { result.now ≡ body_at reader.entry.trace.now reader.entry.place }
-{
-    body_at(reader.trace, reader.place)
-}
+    // The body of the record at its place, as part of the trace.
+    pub fn body(self) -> &'a [u8]
+        ensures { result.now ≡ body_at self.entry.trace.now self.entry.place }
+    {
+        body_at(self.trace, self.place)
+    }
 
-// That record can be read.
-pub fn readable<'a>(reader: Reader<'a>) -> bool
-    ensures { result ≡ record_readable reader.entry.trace.now reader.entry.place }
-{
-    record_readable(reader.trace, reader.place)
-}
+    // That record can be read.
+    pub fn readable(self) -> bool
+        ensures { result ≡ record_readable self.entry.trace.now self.entry.place }
+    {
+        record_readable(self.trace, self.place)
+    }
 
-// The same reader at the next record.
-pub fn next<'a>(reader: Reader<'a>) -> Reader<'a>
-    ensures { (result.trace ≡ reader.entry.trace) × (result.place ≡ next_place reader.entry.trace.now reader.entry.place) }
-{
-    Reader {
-        trace: reader.trace,
-        place: next_place(reader.trace, reader.place),
+    // The same reader at the next record.
+    pub fn next(self) -> Reader<'a>
+        ensures { (result.trace ≡ self.entry.trace) × (result.place ≡ next_place self.entry.trace.now self.entry.place) }
+    {
+        Reader {
+            place: next_place(self.trace, self.place),
+            ..self
+        }
     }
 }
 
 // The body of a trace's first record.
-pub fn first_body<'a>(trace: &'a [u8]) -> &'a [u8]
+pub fn first_body(trace: &[u8]) -> &[u8]
     ensures { result.now ≡ body_at trace.now 1 }
 {
-    body(new(trace))
+    Reader::new(trace).body()
 }
 
 // The body of the record at a place of a trace.
-pub fn body_from<'a>(trace: &'a [u8], place: usize) -> &'a [u8]
+pub fn body_from(trace: &[u8], place: usize) -> &[u8]
     ensures { result.now ≡ body_at trace.now place }
 {
-    body(Reader { trace, place })
+    Reader { trace, place }.body()
 }
 
 // That record can be read.
-pub fn readable_from<'a>(trace: &'a [u8], place: usize) -> bool
+pub fn readable_from(trace: &[u8], place: usize) -> bool
     ensures { result ≡ record_readable trace.now place }
 {
-    readable(Reader { trace, place })
+    Reader { trace, place }.readable()
 }

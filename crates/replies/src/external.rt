@@ -1,5 +1,5 @@
 // An external interrupt on lent bytes: page, record and descriptor.
-ghost use Rattle.std.specs.Prelude.{◌≡◌, length};
+ghost use Rattle.std.specs.Prelude.{◌≡◌};
 ghost use Rattle.replies.specs.Replies.{RepliesLent, external_reply, gg_external_interrupt};
 
 use crate::told::{refused, told_status};
@@ -9,8 +9,12 @@ use layout::records::{record_of, record_readable};
 use model::external_interrupt;
 
 // On a record that can be read.
-fn external_reply(page: &mut [u8], record: &mut [u8], descriptor: &mut [u8], vector: u32) -> Numbers
-    requires { length «record».old ≡ 48 }
+fn external_reply(
+    page: &mut [u8],
+    record: &mut [u8; 48],
+    descriptor: &mut [u8],
+    vector: u32,
+) -> Numbers
     ensures { RepliesLent (external_reply page.old «record».old descriptor.old vector) result.answer result.first result.second «record».new page.new descriptor.new }
 {
     let outcome = external_interrupt(page, record_of(record), descriptor, vector);
@@ -32,9 +36,9 @@ pub fn external_bytes(
     if !descriptor_fits(descriptor) {
         return refused(5);
     }
-    if record.len() != 48 {
+    let Some(record) = record.as_mut_array::<48>() else {
         return refused(2);
-    }
+    };
     if !record_readable(record) {
         return refused(2);
     }

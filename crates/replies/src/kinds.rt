@@ -1,12 +1,13 @@
 // One event by its kind: refusal 2 of what cannot be read, or the model's function for the kind on the fields that it names.
-ghost use Rattle.std.specs.Prelude.{◌≡◌, true, ltb, length};
+ghost use Rattle.std.specs.Prelude.{◌≡◌, true, ltb};
 ghost use Rattle.events.specs.declared.event.Event.TheVariants.{Entry, FromCr8, Rdmsr};
-ghost use Rattle.layout.specs.EventBytes.{flags_of, detail_of, number_of, value_of, memory_readable, memory_read_of, memory_write_of, to_cr8_of, wrmsr_of, boundary_of, request_of, event_readable, event_of};
+ghost use Rattle.layout.specs.EventBytes.{flags_of, detail_of, number_of, value_of, memory_readable, access_of, memory_read_of, memory_write_of, to_cr8_of, wrmsr_of, boundary_of, request_of, event_readable, event_of};
 ghost use Rattle.layout.specs.RecordBytes.{controls_of, reserved_zero};
 ghost use Rattle.replies.specs.Replies.{Replies, kind_reply};
 
 use crate::told::{refused, told, told_status};
 use events::answer::Numbers;
+use events::kind::{Kind, is_set};
 use layout::controls::{controls_of, reserved_zero};
 use layout::event_bytes::{DETAIL, FLAGS, KIND, NUMBER, SIZE, VALUE, memory_readable};
 use layout::records::record_of;
@@ -14,9 +15,11 @@ use model::kinds::{
     boundary, entry, from_cr8, memory_read, memory_write, rdmsr, request, to_cr8, wrmsr,
 };
 use page::bytes::{byte_at, long_within, word_within};
+use processor::access::MemoryAccess;
+use processor::boundary::Between;
 
 // An entry.
-fn entry_reply(page: &mut [u8], record: &mut [u8], event: &[u8]) -> Numbers
+fn entry_reply(page: &mut [u8], record: &mut [u8; 48], event: &[u8]) -> Numbers
     ensures { Replies (kind_reply (reserved_zero event.now) (Entry (controls_of event.now)) page.old «record».old) result.answer result.first result.second «record».new page.new }
 {
     if !reserved_zero(event) {
@@ -26,50 +29,48 @@ fn entry_reply(page: &mut [u8], record: &mut [u8], event: &[u8]) -> Numbers
     told(record, outcome)
 }
 
-// A memory read: flags bit 0 is the fetch flag, bit 1 the already-virtualised one.
-fn memory_read_reply(page: &mut [u8], record: &mut [u8], event: &[u8]) -> Numbers
-    requires { length «record».old ≡ 48 }
+// The access of a memory read or write: flags bit 0 is the fetch flag, bit 1 the already-virtualised one.
+fn access_of(event: &[u8]) -> MemoryAccess
+    ensures { result ≡ access_of event.now }
+{
+    let flags = byte_at(event, FLAGS);
+    MemoryAccess {
+        offset: (word_within(event, NUMBER) % 0x1_0000) as u16,
+        size: byte_at(event, SIZE),
+        fetch: is_set(flags, 0),
+        already: is_set(flags, 1),
+    }
+}
+
+// A memory read.
+fn memory_read_reply(page: &mut [u8], record: &mut [u8; 48], event: &[u8]) -> Numbers
     ensures { Replies (kind_reply (memory_readable event.now) (memory_read_of event.now) page.old «record».old) result.answer result.first result.second «record».new page.new }
 {
     if !memory_readable(event) {
         return refused(2);
     }
-    let flags = byte_at(event, FLAGS);
-    let outcome = memory_read(
-        page,
-        record_of(record),
-        (word_within(event, NUMBER) % 0x1_0000) as u16,
-        byte_at(event, SIZE),
-        flags % 2 == 1,
-        flags / 2 % 2 == 1,
-    );
+    let outcome = memory_read(page, record_of(record), access_of(event));
     told_status(record, outcome)
 }
 
-// A memory write, with the same flags.
-fn memory_write_reply(page: &mut [u8], record: &mut [u8], event: &[u8]) -> Numbers
-    requires { length «record».old ≡ 48 }
+// A memory write.
+fn memory_write_reply(page: &mut [u8], record: &mut [u8; 48], event: &[u8]) -> Numbers
     ensures { Replies (kind_reply (memory_readable event.now) (memory_write_of event.now) page.old «record».old) result.answer result.first result.second «record».new page.new }
 {
     if !memory_readable(event) {
         return refused(2);
     }
-    let flags = byte_at(event, FLAGS);
     let outcome = memory_write(
         page,
         record_of(record),
-        (word_within(event, NUMBER) % 0x1_0000) as u16,
-        byte_at(event, SIZE),
-        flags % 2 == 1,
-        flags / 2 % 2 == 1,
+        access_of(event),
         long_within(event, VALUE),
     );
     told_status(record, outcome)
 }
 
 // MOV to CR8.
-fn to_cr8_reply(page: &mut [u8], record: &mut [u8], event: &[u8]) -> Numbers
-    requires { length «record».old ≡ 48 }
+fn to_cr8_reply(page: &mut [u8], record: &mut [u8; 48], event: &[u8]) -> Numbers
     ensures { Replies (kind_reply (ltb (value_of event.now) 0x100) (to_cr8_of event.now) page.old «record».old) result.answer result.first result.second «record».new page.new }
 {
     let value = long_within(event, VALUE);
@@ -86,8 +87,7 @@ fn to_cr8_reply(page: &mut [u8], record: &mut [u8], event: &[u8]) -> Numbers
 }
 
 // MOV from CR8.
-fn from_cr8_reply(page: &mut [u8], record: &mut [u8], event: &[u8]) -> Numbers
-    requires { length «record».old ≡ 48 }
+fn from_cr8_reply(page: &mut [u8], record: &mut [u8; 48], event: &[u8]) -> Numbers
     ensures { Replies (kind_reply true (FromCr8 (detail_of event.now)) page.old «record».old) result.answer result.first result.second «record».new page.new }
 {
     let outcome = from_cr8(page, record_of(record), byte_at(event, DETAIL));
@@ -95,8 +95,7 @@ fn from_cr8_reply(page: &mut [u8], record: &mut [u8], event: &[u8]) -> Numbers
 }
 
 // RDMSR.
-fn rdmsr_reply(page: &mut [u8], record: &mut [u8], event: &[u8]) -> Numbers
-    requires { length «record».old ≡ 48 }
+fn rdmsr_reply(page: &mut [u8], record: &mut [u8; 48], event: &[u8]) -> Numbers
     ensures { Replies (kind_reply true (Rdmsr (number_of event.now)) page.old «record».old) result.answer result.first result.second «record».new page.new }
 {
     let outcome = rdmsr(page, record_of(record), word_within(event, NUMBER));
@@ -104,8 +103,7 @@ fn rdmsr_reply(page: &mut [u8], record: &mut [u8], event: &[u8]) -> Numbers
 }
 
 // WRMSR.
-fn wrmsr_reply(page: &mut [u8], record: &mut [u8], event: &[u8]) -> Numbers
-    requires { length «record».old ≡ 48 }
+fn wrmsr_reply(page: &mut [u8], record: &mut [u8; 48], event: &[u8]) -> Numbers
     ensures { Replies (kind_reply true (wrmsr_of event.now) page.old «record».old) result.answer result.first result.second «record».new page.new }
 {
     let outcome = wrmsr(
@@ -118,28 +116,25 @@ fn wrmsr_reply(page: &mut [u8], record: &mut [u8], event: &[u8]) -> Numbers
 }
 
 // A boundary: flags bit 0 is IF, bit 1 blocking by STI, bit 2 by MOV SS.
-fn boundary_reply(page: &mut [u8], record: &mut [u8], event: &[u8]) -> Numbers
-    requires { length «record».old ≡ 48 }
+fn boundary_reply(page: &mut [u8], record: &mut [u8; 48], event: &[u8]) -> Numbers
     ensures { Replies (kind_reply (ltb (flags_of event.now) 8) (boundary_of event.now) page.old «record».old) result.answer result.first result.second «record».new page.new }
 {
     let flags = byte_at(event, FLAGS);
     if 8 <= flags {
         return refused(2);
     }
-    let outcome = boundary(
-        page,
-        record_of(record),
-        flags % 2 == 1,
-        flags / 2 % 2 == 1,
-        flags / 4 % 2 == 1,
-        byte_at(event, DETAIL),
-    );
+    let at = Between {
+        interrupts: is_set(flags, 0),
+        sti: is_set(flags, 1),
+        mov_ss: is_set(flags, 2),
+        activity: byte_at(event, DETAIL),
+    };
+    let outcome = boundary(page, record_of(record), at);
     told_status(record, outcome)
 }
 
 // A request.
-fn request_reply(page: &mut [u8], record: &mut [u8], event: &[u8]) -> Numbers
-    requires { length «record».old ≡ 48 }
+fn request_reply(page: &mut [u8], record: &mut [u8; 48], event: &[u8]) -> Numbers
     ensures { Replies (kind_reply (ltb (number_of event.now) 0x1_0000) (request_of event.now) page.old «record».old) result.answer result.first result.second «record».new page.new }
 {
     let number = word_within(event, NUMBER);
@@ -151,20 +146,19 @@ fn request_reply(page: &mut [u8], record: &mut [u8], event: &[u8]) -> Numbers
 }
 
 // The event by its kind.
-pub fn kind_reply(page: &mut [u8], record: &mut [u8], event: &[u8]) -> Numbers
-    requires { length «record».old ≡ 48 }
+pub fn kind_reply(page: &mut [u8], record: &mut [u8; 48], event: &[u8]) -> Numbers
     ensures { Replies (kind_reply (event_readable event.now) (event_of event.now) page.old «record».old) result.answer result.first result.second «record».new page.new }
 {
-    match byte_at(event, KIND) {
-        1 => entry_reply(page, record, event),
-        2 => memory_read_reply(page, record, event),
-        3 => memory_write_reply(page, record, event),
-        4 => to_cr8_reply(page, record, event),
-        5 => from_cr8_reply(page, record, event),
-        6 => rdmsr_reply(page, record, event),
-        7 => wrmsr_reply(page, record, event),
-        8 => boundary_reply(page, record, event),
-        9 => request_reply(page, record, event),
-        _ => refused(2),
+    match Kind::try_from(byte_at(event, KIND)) {
+        Ok(Kind::Entry) => entry_reply(page, record, event),
+        Ok(Kind::MemoryRead) => memory_read_reply(page, record, event),
+        Ok(Kind::MemoryWrite) => memory_write_reply(page, record, event),
+        Ok(Kind::ToCr8) => to_cr8_reply(page, record, event),
+        Ok(Kind::FromCr8) => from_cr8_reply(page, record, event),
+        Ok(Kind::Rdmsr) => rdmsr_reply(page, record, event),
+        Ok(Kind::Wrmsr) => wrmsr_reply(page, record, event),
+        Ok(Kind::Boundary) => boundary_reply(page, record, event),
+        Ok(Kind::Request) => request_reply(page, record, event),
+        Err(_) => refused(2),
     }
 }

@@ -1,7 +1,7 @@
 // What a simulator's calls reply: a lent page, a record and an event as bytes, an answer as numbers.
-#![tactic(auto, unfolding(crate::specs::Replies::external_reply, crate::specs::Replies::gg_external_interrupt, crate::specs::Replies::gg_leave, crate::specs::Replies::gg_step, crate::specs::Replies::kind_reply, crate::specs::Replies::leave_reply, crate::specs::Replies::model_reply, layout::specs::EventBytes::boundary_of, layout::specs::EventBytes::event_of, layout::specs::EventBytes::event_readable, layout::specs::EventBytes::memory_read_of, layout::specs::EventBytes::memory_write_of, layout::specs::EventBytes::request_of, layout::specs::EventBytes::to_cr8_of, layout::specs::EventBytes::wrmsr_of))]
+#![tactic(auto, using(crate::proofs::Reply::same_controls), unfolding(crate::specs::Replies::external_reply, crate::specs::Replies::gg_external_interrupt, crate::specs::Replies::gg_leave, crate::specs::Replies::gg_step, crate::specs::Replies::kind_reply, crate::specs::Replies::leave_reply, crate::specs::Replies::model_reply, layout::specs::EventBytes::boundary_of, layout::specs::EventBytes::event_of, layout::specs::EventBytes::event_readable, layout::specs::EventBytes::memory_read_of, layout::specs::EventBytes::memory_write_of, layout::specs::EventBytes::request_of, layout::specs::EventBytes::to_cr8_of, layout::specs::EventBytes::wrmsr_of))]
 
-ghost use Rattle.std.specs.Prelude.{◌≡◌, List, ℕ, length};
+ghost use Rattle.std.specs.Prelude.{◌≡◌, List, ℕ};
 ghost use Rattle.replies.specs.Replies.{Replies, gg_step, leave_reply, gg_leave};
 
 use events::answer::Numbers;
@@ -21,22 +21,17 @@ pub fn step_bytes(page: &mut [u8], record: &mut [u8], event: &[u8]) -> Numbers
     if page.len() != 4096 {
         return refused(1);
     }
-    if record.len() != 48 {
+    let Some(record) = record.as_mut_array::<48>() else {
         return refused(2);
-    }
-    if event.len() != 48 {
-        return refused(2);
-    }
-    let readable = record_readable(record);
-    if !readable {
+    };
+    if event.len() != 48 || !record_readable(record) {
         return refused(2);
     }
     kind_reply(page, record, event)
 }
 
 // The guest of a record that can be read leaves.
-fn leave_reply(record: &mut [u8]) -> Numbers
-    requires { length «record».old ≡ 48 }
+fn leave_reply(record: &mut [u8; 48]) -> Numbers
     ensures { (p : List ℕ) → Replies (leave_reply p «record».old) result.answer result.first result.second «record».new p }
 {
     let outcome = model::leave(record_of(record));
@@ -47,9 +42,9 @@ fn leave_reply(record: &mut [u8]) -> Numbers
 pub fn leave_bytes(record: &mut [u8]) -> Numbers
     ensures { (p : List ℕ) → Replies (gg_leave p «record».old) result.answer result.first result.second «record».new p }
 {
-    if record.len() != 48 {
+    let Some(record) = record.as_mut_array::<48>() else {
         return refused(2);
-    }
+    };
     if !record_readable(record) {
         return refused(2);
     }

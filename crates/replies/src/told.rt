@@ -1,5 +1,5 @@
 // What a call tells: the answer's numbers, and the record's bytes where the answer changes them.
-ghost use Rattle.std.specs.Prelude.{◌≡◌, length};
+ghost use Rattle.std.specs.Prelude.{◌≡◌};
 ghost use Rattle.events.specs.Answers.{numbers};
 ghost use Rattle.layout.specs.RecordBytes.{controls_of};
 ghost use Rattle.replies.specs.Replies.{Told};
@@ -14,7 +14,7 @@ pub fn refused(number: u64) -> Numbers
 }
 
 // The outcome's numbers; the record's bytes take its record where the answer changes it.
-pub fn told(record: &mut [u8], outcome: Outcome) -> Numbers
+pub fn told(record: &mut [u8; 48], outcome: Outcome) -> Numbers
     ensures { Told outcome «record».old result «record».new }
 {
     let answer = outcome.answer;
@@ -25,8 +25,8 @@ pub fn told(record: &mut [u8], outcome: Outcome) -> Numbers
 }
 
 // The same of an outcome whose controls are those that the bytes hold.
-pub fn told_status(record: &mut [u8], outcome: Outcome) -> Numbers
-    requires { (length «record».old ≡ 48) × (outcome.«record».controls ≡ controls_of «record».old) }
+pub fn told_status(record: &mut [u8; 48], outcome: Outcome) -> Numbers
+    requires { outcome.«record».controls ≡ controls_of «record».old }
     ensures { Told outcome «record».old result «record».new }
 {
     let answer = outcome.answer;

@@ -1,49 +1,45 @@
 // The event of each kind of record, its fields read from the body, carried out by the model.
-ghost use Rattle.std.specs.Prelude.{◌≡◌, false, eqb};
-ghost use Rattle.processor.specs.declared.controls.Controls.{Controls};
 ghost use Rattle.events.specs.declared.event.Event.TheVariants.{FromCr8, Rdmsr, Request};
 ghost use Rattle.meaning.specs.After.{Leaves};
 ghost use Rattle.meaning.specs.Input.{given};
 ghost use Rattle.meaning.specs.Step.{step as step_of};
 ghost use Rattle.page.specs.Page.{byte_at};
 ghost use Rattle.trace.specs.Fields.{four_at};
-ghost use Rattle.trace.specs.Format.{kind_of};
-ghost use Rattle.trace.specs.Records.{memory_read_of, memory_write_of, to_cr8_of, wrmsr_of, boundary_of, event_of};
+ghost use Rattle.trace.specs.Records.{access_of, memory_read_of, memory_write_of, to_cr8_of, wrmsr_of, boundary_of, event_of};
 
 use events::answer::Outcome;
+use events::kind::{Kind, is_set};
 use model::kinds;
 use page::bytes::byte_at;
-use processor::controls::Record;
+use processor::access::MemoryAccess;
+use processor::boundary::Between;
+use processor::controls::{Controls, Record};
 use trace::fields::{eight_at, four_at, two_at};
 use trace::kinds::{BOUNDARY_FLAGS, KIND, MEMORY_FLAGS};
+
+// The access of a body of kind 2 or 3.
+fn access_of(body: &[u8]) -> MemoryAccess
+    ensures { result ≡ access_of body.now }
+{
+    let flags = byte_at(body, MEMORY_FLAGS);
+    MemoryAccess {
+        offset: two_at(body, 1),
+        size: byte_at(body, 3),
+        fetch: is_set(flags, 0),
+        already: is_set(flags, 1),
+    }
+}
 
 fn memory_read(page: &[u8], record: Record, body: &[u8]) -> Outcome
     ensures { Leaves (step_of page.now «record» (given (memory_read_of body.now))) result page.now }
 {
-    let flags = byte_at(body, MEMORY_FLAGS);
-    kinds::memory_read(
-        page,
-        record,
-        two_at(body, 1),
-        byte_at(body, 3),
-        flags % 2 == 1,
-        flags / 2 % 2 == 1,
-    )
+    kinds::memory_read(page, record, access_of(body))
 }
 
 fn memory_write(page: &mut [u8], record: Record, body: &[u8]) -> Outcome
     ensures { Leaves (step_of page.old «record» (given (memory_write_of body.now))) result page.new }
 {
-    let flags = byte_at(body, MEMORY_FLAGS);
-    kinds::memory_write(
-        page,
-        record,
-        two_at(body, 1),
-        byte_at(body, 3),
-        flags % 2 == 1,
-        flags / 2 % 2 == 1,
-        eight_at(body, 5),
-    )
+    kinds::memory_write(page, record, access_of(body), eight_at(body, 5))
 }
 
 fn to_cr8(page: &mut [u8], record: Record, body: &[u8]) -> Outcome
@@ -74,14 +70,13 @@ fn boundary(page: &mut [u8], record: Record, body: &[u8]) -> Outcome
     ensures { Leaves (step_of page.old «record» (given (boundary_of body.now))) result page.new }
 {
     let flags = byte_at(body, BOUNDARY_FLAGS);
-    kinds::boundary(
-        page,
-        record,
-        flags % 2 == 1,
-        flags / 2 % 2 == 1,
-        flags / 4 % 2 == 1,
-        byte_at(body, 2),
-    )
+    let at = Between {
+        interrupts: is_set(flags, 0),
+        sti: is_set(flags, 1),
+        mov_ss: is_set(flags, 2),
+        activity: byte_at(body, 2),
+    };
+    kinds::boundary(page, record, at)
 }
 
 fn request(page: &mut [u8], record: Record, body: &[u8]) -> Outcome
@@ -90,19 +85,20 @@ fn request(page: &mut [u8], record: Record, body: &[u8]) -> Outcome
     kinds::request(page, record, byte_at(body, 1) as u16)
 }
 
-// The event of a record of any kind but 0 and 1.
-pub fn event_outcome(page: &mut [u8], record: Record, body: &[u8]) -> Outcome
-    ensures { eqb (kind_of body.now) 1 ≡ false → (c : Controls) → Leaves (step_of page.old «record» (given (event_of c body.now))) result page.new }
+// The event of a record, which brings the controls for later entries where it is an entry. A record of no event's kind, which a replay
+// doesn't carry out, is taken for a request.
+pub fn event_outcome(page: &mut [u8], record: Record, controls: Controls, body: &[u8]) -> Outcome
+    ensures { Leaves (step_of page.old «record» (given (event_of controls body.now))) result page.new }
 {
-    let kind = byte_at(body, KIND);
-    match kind {
-        2 => memory_read(page, record, body),
-        3 => memory_write(page, record, body),
-        4 => to_cr8(page, record, body),
-        5 => from_cr8(page, record, body),
-        6 => rdmsr(page, record, body),
-        7 => wrmsr(page, record, body),
-        8 => boundary(page, record, body),
-        _ => request(page, record, body),
+    match Kind::try_from(byte_at(body, KIND)) {
+        Ok(Kind::Entry) => kinds::entry(page, record, controls),
+        Ok(Kind::MemoryRead) => memory_read(page, record, body),
+        Ok(Kind::MemoryWrite) => memory_write(page, record, body),
+        Ok(Kind::ToCr8) => to_cr8(page, record, body),
+        Ok(Kind::FromCr8) => from_cr8(page, record, body),
+        Ok(Kind::Rdmsr) => rdmsr(page, record, body),
+        Ok(Kind::Wrmsr) => wrmsr(page, record, body),
+        Ok(Kind::Boundary) => boundary(page, record, body),
+        Ok(Kind::Request) | Err(_) => request(page, record, body),
     }
 }

@@ -1,18 +1,16 @@
 // One record of a trace, carried out on a lent page.
-#![tactic(auto, unfolding(trace::specs::Records::boundary_of, trace::specs::Records::event_of, trace::specs::Records::memory_read_of, trace::specs::Records::memory_write_of, trace::specs::Records::to_cr8_of, trace::specs::Records::wrmsr_of))]
+#![tactic(auto, using(crate::proofs::Tell::one_digit), unfolding(recorded::specs::Session::answer_to, recorded::specs::Session::session_after, trace::specs::Records::boundary_of, trace::specs::Records::event_of, trace::specs::Records::memory_read_of, trace::specs::Records::memory_write_of, trace::specs::Records::to_cr8_of, trace::specs::Records::wrmsr_of))]
 
-ghost use Rattle.processor.specs.Controls.{with_controls};
-ghost use Rattle.session.specs.Told.{Begins, ControlsTold, EntryTold, Tells, session_of};
+ghost use Rattle.session.specs.Told.{Begins, ControlsTold, Tells, session_of};
 ghost use Rattle.trace.specs.Format.{kind_of};
 ghost use Rattle.std.specs.Prelude.{eqb, false, ◌≡◌};
 
 use crate::kinds::event_outcome;
-use events::answer::{Numbers, numbered};
+use events::answer::{Answer, Numbers};
 use model::fresh_record;
-use model::kinds::entry;
 use page::bytes::byte_at;
 use processor::controls::{Controls, Record};
-use trace::kinds::KIND;
+use trace::kinds::{KIND, RecordKind};
 use trace::records::controls_of;
 
 mod kinds;
@@ -31,83 +29,41 @@ pub struct Told {
     pub state: State,
 }
 
-// The same controls, field by field: a copy carries the bytes between fields along.
-fn by_fields(controls: Controls) -> Controls
-    ensures { result ≡ controls }
-{
-    Controls {
-        flags: controls.flags,
-        threshold: controls.threshold,
-        notification: controls.notification,
-        eoi_exit_0: controls.eoi_exit_0,
-        eoi_exit_1: controls.eoi_exit_1,
-        eoi_exit_2: controls.eoi_exit_2,
-        eoi_exit_3: controls.eoi_exit_3,
-    }
-}
-
-// A record with controls, field by field too.
-fn with_controls(record: Record, controls: Controls) -> Record
-    ensures { result ≡ with_controls «record» controls }
-{
-    Record {
-        guest: record.guest,
-        rvi: record.rvi,
-        svi: record.svi,
-        recognised: record.recognised,
-        controls: by_fields(controls),
-    }
-}
-
 // A fresh record, and all controls zero.
 pub fn begin() -> State
     ensures { Begins result }
 {
-    let fresh = fresh_record();
-    let record = with_controls(fresh, fresh.controls);
-    let controls = by_fields(fresh.controls);
-    State { record, controls }
+    let record = fresh_record();
+    State {
+        record,
+        controls: record.controls,
+    }
 }
 
 // Kind 0: the controls for later entries, quiet in either mode.
 fn controls_told(state: State, body: &[u8]) -> Told
     ensures { ControlsTold state body.now result }
 {
-    let record = state.record;
-    let controls = controls_of(body);
     Told {
-        numbers: numbered(6, 0, 0),
-        state: State { record, controls },
+        numbers: Answer::Quiet.into(),
+        state: State {
+            controls: controls_of(body),
+            ..state
+        },
     }
 }
 
-// Kind 1: an entry with the controls for later entries.
-fn entry_told(page: &mut [u8], state: State) -> Told
-    ensures { EntryTold page.old state result page.new }
-{
-    let controls = by_fields(state.controls);
-    let outcome = entry(page, state.record, controls);
-    let answer = outcome.answer;
-    let after = outcome.record;
-    let record = with_controls(after, after.controls);
-    Told {
-        numbers: Numbers::from(answer),
-        state: State { record, controls },
-    }
-}
-
-// Every other kind: its event, which leaves the controls in force.
+// Every other kind: its event, which leaves the controls for later entries.
 fn event_told(page: &mut [u8], state: State, body: &[u8]) -> Told
-    ensures { eqb (kind_of body.now) 0 ≡ false → eqb (kind_of body.now) 1 ≡ false → Tells (session_of page.old state) body.now result page.new }
+    ensures { eqb (kind_of body.now) 0 ≡ false → Tells (session_of page.old state) body.now result page.new }
 {
-    let held = state.record;
-    let outcome = event_outcome(page, held, body);
-    let answer = outcome.answer;
-    let record = with_controls(outcome.record, held.controls);
-    let controls = by_fields(state.controls);
+    let outcome = event_outcome(page, state.record, state.controls, body);
     Told {
-        numbers: Numbers::from(answer),
-        state: State { record, controls },
+        numbers: outcome.answer.into(),
+        state: State {
+            record: outcome.record,
+            ..state
+        },
     }
 }
 
@@ -115,12 +71,8 @@ fn event_told(page: &mut [u8], state: State, body: &[u8]) -> Told
 pub fn carried_out(page: &mut [u8], state: State, body: &[u8]) -> Told
     ensures { Tells (session_of page.old state) body.now result page.new }
 {
-    let kind = byte_at(body, KIND);
-    if kind == 0 {
-        return controls_told(state, body);
+    match RecordKind::try_from(byte_at(body, KIND)) {
+        Ok(RecordKind::Controls) => controls_told(state, body),
+        _ => event_told(page, state, body),
     }
-    if kind == 1 {
-        return entry_told(page, state);
-    }
-    event_told(page, state, body)
 }

@@ -3,3 +3,4 @@ pub mod Format
 pub mod Records
 pub mod RecordRows
 pub mod BodyRows
+pub mod Kinds

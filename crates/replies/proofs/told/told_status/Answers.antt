@@ -6,5 +6,5 @@ use Rattle.replies.proofs.told.told_status.Goals as goal
 pub returns : goal.returns
 returns c = record {
   numbers = c.from-numbers.ensures;
-  record_bytes = c.keep_status.ensures ∙ kept-status _ _ c.requires.0 (λ i. (c.slice_known-1.given i).fits) c.requires.1 _;
+  record_bytes = c.keep_status.ensures ∙ kept-status _ _ c.told-record c.fits-record c.requires _;
 }
