@@ -1,8 +1,8 @@
 // One turn of a replay: a record read, carried out, and its line written.
 ghost use Rattle.std.specs.Prelude.{◌≡◌, ◌<◌};
-ghost use Rattle.playback.specs.Turns.{goes_on, last_of, Starts, Ready, Turned};
-ghost use Rattle.text.specs.Written.{Writes};
+ghost use Rattle.playback.specs.Turns.{goes_on, Starts, Ready, Turned, Closes};
 
+use crate::Text;
 use reader::{body_from, readable_from};
 use session::{State, begin, carried_out};
 use text::lines::{bad_line, done_line, line};
@@ -34,13 +34,7 @@ pub fn first_turn(limit: u32) -> Turn
 pub fn goes_on(trace: &[u8], turn: Turn) -> bool
     ensures { result ≡ goes_on trace.now turn }
 {
-    if turn.left == 0 {
-        return false;
-    }
-    if trace.len() <= turn.place {
-        return false;
-    }
-    readable_from(trace, turn.place)
+    turn.left != 0 && turn.place < trace.len() && readable_from(trace, turn.place)
 }
 
 // The next record is carried out, and its line written.
@@ -63,15 +57,17 @@ pub fn next_turn(page: &mut [u8], trace: &[u8], out: &mut [u8], turn: Turn) -> T
 }
 
 // The last line: "done", or "bad" where a record is left that can't be read.
-pub fn last_line(trace: &[u8], out: &mut [u8], at: u32, left: u32, place: usize, count: u32) -> u64
-    requires { count < 100000 }
-    ensures { Writes out.old at (last_of trace.now left place count) result out.new }
+pub fn last_line(trace: &[u8], out: &mut [u8], turn: Turn) -> Text
+    requires { turn.count < 100000 }
+    ensures { Closes trace.now out.old turn result out.new }
 {
-    if left == 0 {
-        return done_line(out, at, count);
+    let end = if turn.left == 0 || trace.len() <= turn.place {
+        done_line(out, turn.at, turn.count)
+    } else {
+        bad_line(out, turn.at, turn.count + 1)
+    };
+    Text {
+        end,
+        count: turn.count,
     }
-    if trace.len() <= place {
-        return done_line(out, at, count);
-    }
-    bad_line(out, at, count + 1)
 }
