@@ -7,7 +7,7 @@ ghost use Rattle.playback.specs.Turns.{Ended};
 ghost use Rattle.playback.specs.Replays.{Prints};
 
 use crate::Text;
-use crate::turns::{Turn, first_turn, goes_on, last_line, next_turn};
+use crate::turns::Turn;
 use page::bytes::byte_at;
 use text::lines::bad_line;
 use trace::bodies::{size_fits, version_fits};
@@ -19,9 +19,9 @@ fn turns(page: &mut [u8], trace: &[u8], limit: u32, out: &mut [u8]) -> Turn
     requires { length trace.now ≤ 61440 }
     ensures { Ended trace.now limit page.old out.old result page.new out.new }
 {
-    let mut turn = first_turn(limit);
-    while goes_on(trace, turn) {
-        turn = next_turn(page, trace, out, turn);
+    let mut turn = Turn::first(limit);
+    while turn.goes_on(trace) {
+        turn = turn.next(page, trace, out);
     }
     turn
 }
@@ -39,11 +39,11 @@ fn told(trace: &[u8], limit: u32, out: &mut [u8]) -> Text
     ensures { is_trace trace.now ≡ true → Prints trace.now limit out.old result out.new }
 {
     if !first_fits(trace) {
-        return last_line(trace, out, first_turn(limit));
+        return Turn::first(limit).last_line(trace, out);
     }
     let mut page = [0u8; 4096];
     let last = turns(&mut page, trace, limit, out);
-    last_line(trace, out, last)
+    last.last_line(trace, out)
 }
 
 // A right version byte, and no more bytes than the longest trace.

@@ -10,8 +10,8 @@ pub returns-then-not-first_fits : goal.returns-then-not-first_fits
 returns-then-not-first_fits c e =
     let t = c.args.trace.now in
     let o = c.args.out.now in
-    let u = c.first_turn.result in
-    let start = c.first_turn.ensures in
+    let u = c.first.result in
+    let start = c.first.ensures in
     let unread = unlike-kind t 1 (sym c.first_fits.ensures ∙ c.if-not-first_fits.true) in
     whole-trace t c.args.limit o zero_page u o c.last_line.result c.last_line.new.out e c.requires (record { over = stops t u (rw start.place unread); going = begins t c.args.limit zero_page o u start }) c.last_line.ensures
 
