@@ -1,13 +1,12 @@
 -- What is printed of a trace and of what is no trace, and what a replay then answers. Assumes nothing.
 use native.Mathlib.Omega.{arith}
-use Prim.Native.Nat.{ℕ, ◌≤◌, ◌<◌}
+use Prim.Native.Nat.{ℕ, ◌≤◌}
 use mathlib.Core.Path.{◌≡◌, refl, sym, ap, ◌∙◌}
 use mathlib.Core.Bool.{Bool, true, false}
-use lib.Dec.{leb}
 use mathlib.Core.List.{List}
 use Rattle.std.specs.Prelude.{Option, Some, None, if◌then◌else◌}
-use lib.ListN.{length, drop, length-append}
-use borrow.Author.Tests.{le-leb, lt-leb}
+use lib.ListN.{length}
+use borrow.Author.Tests.{le-leb}
 use Rattle.text.specs.Lines.{bad_line}
 use Rattle.text.specs.Written.{written, Writes}
 use Rattle.text.proofs.Lengths.{bad-short}
@@ -17,7 +16,7 @@ use Rattle.recorded.specs.Replay.{is_trace, replay_text, replayed}
 use Rattle.playback.specs.declared.Text.{Text}
 use Rattle.playback.specs.declared.turns.Turn.{Turn}
 use Rattle.playback.specs.Turns.{last_of, text_left, Ended, Closes}
-use Rattle.playback.specs.Replays.{room_for, Prints, text_fits, buffer_after, Replays}
+use Rattle.playback.specs.Replays.{Prints, text_fits, buffer_after, Replays}
 use Rattle.playback.proofs.On.{last-left, none_left, last-short}
 
 pub no-trace : (t : List ℕ) (limit : ℕ) (o : List ℕ) (end : ℕ) (o' : List ℕ) → is_trace t ≡ false → Writes o 0 (bad_line 0) end o' → Prints t limit o (record { end = end; count = 0 }) o'

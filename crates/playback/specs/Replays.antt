@@ -1,5 +1,5 @@
 -- What a replay leaves of a lent buffer, and what it answers.
-use Rattle.std.specs.Prelude.{ℕ, ◌+◌, ◌*◌, ◌≤◌, ◌≡◌, Bool, true, List, ◌++◌, Option, Some, None, IsSome, leb, length, drop, if◌then◌else◌}
+use Rattle.std.specs.Prelude.{ℕ, ◌+◌, ◌*◌, ◌≤◌, ◌≡◌, Bool, List, ◌++◌, Option, Some, None, IsSome, leb, length, drop, if◌then◌else◌}
 use Rattle.text.specs.Written.{Writes}
 use Rattle.recorded.specs.Replay.{replay_text, replayed}
 use Rattle.playback.specs.declared.Text.{Text}
