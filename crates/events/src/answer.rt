@@ -41,7 +41,8 @@ impl Refusal {
 
 #[derive(Clone, Copy)]
 pub enum Answer {
-    Refused(Refusal),
+    // By its number and the check of refusal 4: `Numbers::from` and the theorem `numbers_of-one-to-one` hold of any two bytes.
+    Refused { number: u8, check: u8 },
     Redirected(u64),
     Passthrough,
     Fault,
@@ -81,11 +82,7 @@ impl From<Answer> for Numbers {
 
     fn from(answer: Answer) -> Numbers {
         match answer {
-            Answer::Refused(refusal) => numbered(
-                0,
-                refusal.number().into(),
-                refusal.check().into(),
-            ),
+            Answer::Refused { number, check } => numbered(0, number.into(), check.into()),
             Answer::Redirected(value) => numbered(1, value, 0),
             Answer::Passthrough => numbered(2, 0, 0),
             Answer::Fault => numbered(3, 0, 0),
