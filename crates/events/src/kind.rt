@@ -3,9 +3,12 @@ ghost use Rattle.std.specs.Prelude.{◌≡◌, ◌<◌};
 ghost use Rattle.processor.specs.Logic.{bit};
 ghost use Rattle.events.specs.Kinds.{Decodes};
 
+// In the order of `Event`: in that of the numbers, the compiler makes a subtraction of the conversion, and each event costs an
+// instruction more.
 #[derive(Clone, Copy, Debug, PartialEq, Eq)]
 pub enum Kind {
     Entry,
+    Request,
     MemoryRead,
     MemoryWrite,
     ToCr8,
@@ -13,7 +16,6 @@ pub enum Kind {
     Rdmsr,
     Wrmsr,
     Boundary,
-    Request,
 }
 
 // A number that stands for no kind of event.
