@@ -1,6 +1,6 @@
 // What comes back of an input: the answer with its record, and its numbers.
 ghost use Rattle.std.specs.Prelude.{◌≡◌};
-ghost use Rattle.events.specs.Answers.{refusal_number, refusal_check, numbers, numbers_of};
+ghost use Rattle.events.specs.Answers.{refusal_number, refusal_check, refusal_numbers, numbers, numbers_of};
 
 use processor::controls::Record;
 
@@ -93,5 +93,14 @@ impl From<Answer> for Numbers {
             Answer::Delivered(vector) => numbered(5, vector.into(), 0),
             Answer::Quiet => numbered(6, 0, 0),
         }
+    }
+}
+
+// The numbers of a refusal.
+impl From<Refusal> for Numbers {
+    ghost from_gives = { λ refusal result. result ≡ refusal_numbers refusal };
+
+    fn from(refusal: Refusal) -> Numbers {
+        numbered(0, refusal.number().into(), refusal.check().into())
     }
 }
