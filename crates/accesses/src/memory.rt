@@ -3,7 +3,7 @@ ghost use Rattle.std.specs.Prelude.{◌≡◌};
 ghost use Rattle.accesses.specs.Accesses.{past_register, access_exits, memory_access, read_qualification, write_qualification, self_ipi, write_following};
 
 use processor::access::{Access, MemoryAccess};
-use processor::controls::{Controls, USE_TPR_SHADOW, VIRTUAL_DELIVERY, VIRTUALIZE_APIC_ACCESSES};
+use processor::controls::{Control, Controls};
 use processor::offsets::{VEOI, VICR_HI, VICR_LO, VTPR};
 use table::offsets::open_offset;
 
@@ -26,7 +26,7 @@ fn past_register(offset: u16, size: u8) -> bool
 fn access_exits(c: Controls, write: bool, access: MemoryAccess) -> bool
     ensures { result ≡ access_exits c write access.offset access.size access.fetch access.already }
 {
-    !c.is_on(USE_TPR_SHADOW)
+    !c.has(Control::UseTprShadow)
         | access.fetch
         | (access.size == 8)
         | access.already
@@ -38,7 +38,7 @@ fn access_exits(c: Controls, write: bool, access: MemoryAccess) -> bool
 pub fn memory_access(c: Controls, write: bool, access: MemoryAccess) -> Access
     ensures { result ≡ memory_access c write access.offset access.size access.fetch access.already }
 {
-    if !c.is_on(VIRTUALIZE_APIC_ACCESSES) {
+    if !c.has(Control::VirtualizeApicAccesses) {
         return Access::Passthrough;
     }
     if access_exits(c, write, access) {
@@ -82,7 +82,7 @@ fn self_ipi(icr: u32) -> bool
 pub fn write_following(c: Controls, offset: u16, icr: u32) -> Following
     ensures { result ≡ write_following c offset icr }
 {
-    let delivery = c.is_on(VIRTUAL_DELIVERY);
+    let delivery = c.has(Control::VirtualDelivery);
     if offset == VTPR {
         return Following::Tpr;
     }

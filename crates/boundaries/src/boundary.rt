@@ -8,7 +8,7 @@ use priorities::procedures::{low_cleared, open_boundary};
 use procedures::delivery::delivered_record;
 use procedures::outcome::{delivered, exit, quiet};
 use processor::boundary::Between;
-use processor::controls::{INTERRUPT_WINDOW_EXITING, Record};
+use processor::controls::{Control, Record};
 use processor::offsets::{VIRR, VISR, VPPR};
 use setting::put_vector;
 use stores::bytes::set_word;
@@ -33,7 +33,7 @@ fn boundary_at(page: &mut [u8], record: Record, is_open: bool) -> Outcome
     ensures { Leaves (boundary_at is_open page.old «record») result page.new }
 {
     let controls = record.controls;
-    if is_open & controls.is_on(INTERRUPT_WINDOW_EXITING) {
+    if is_open & controls.has(Control::InterruptWindowExiting) {
         return exit(record, 7, 0);
     }
     if is_open & record.recognised {

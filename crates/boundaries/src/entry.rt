@@ -6,7 +6,7 @@ use events::answer::Outcome;
 use page::bytes::byte_at;
 use procedures::outcome::{exit, quiet};
 use procedures::virtualization::{evaluated_quiet, ppr_virtualization, requested};
-use processor::controls::{Controls, Record, VIRTUAL_DELIVERY};
+use processor::controls::{Control, Controls, Record};
 use processor::offsets::{VIRR, VTPR};
 use rules::entry::exits_at_entry;
 use setting::put_vector;
@@ -15,7 +15,7 @@ fn entered(page: &mut [u8], record: Record) -> Outcome
     ensures { Leaves (entered_of page.old «record») result page.new }
 {
     let controls = record.controls;
-    if controls.is_on(VIRTUAL_DELIVERY) {
+    if controls.has(Control::VirtualDelivery) {
         ppr_virtualization(page, record);
         return evaluated_quiet(page, record);
     }

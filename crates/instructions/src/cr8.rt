@@ -1,10 +1,10 @@
 // What an access to CR8 comes to.
 ghost use Rattle.std.specs.Prelude.{◌≡◌, ◌%◌};
-ghost use Rattle.processor.specs.Controls.{is_on};
+ghost use Rattle.processor.specs.Controls.{is_on, control_bit};
 ghost use Rattle.instructions.specs.Instructions.{cr8_access, to_cr8, from_cr8, cr8_qualification, to_cr8_qualification, from_cr8_qualification};
 
 use processor::access::Access;
-use processor::controls::{CR8_LOAD_EXITING, CR8_STORE_EXITING, Controls, USE_TPR_SHADOW};
+use processor::controls::{Control, Controls};
 
 // The low bits of exit 28's qualification.
 const TO_CR8: u8 = 8;
@@ -12,13 +12,13 @@ const TO_CR8: u8 = 8;
 const FROM_CR8: u8 = 24;
 
 // An access to CR8, by its exit control.
-fn cr8_access(c: Controls, exiting: u8) -> Access
-    ensures { result ≡ cr8_access (is_on c (exiting % 32)) c }
+fn cr8_access(c: Controls, exiting: Control) -> Access
+    ensures { result ≡ cr8_access (is_on c (control_bit exiting)) c }
 {
-    if c.is_on(exiting) {
+    if c.has(exiting) {
         return Access::Exit;
     }
-    if !c.is_on(USE_TPR_SHADOW) {
+    if !c.has(Control::UseTprShadow) {
         return Access::Passthrough;
     }
     Access::Redirected
@@ -27,13 +27,13 @@ fn cr8_access(c: Controls, exiting: u8) -> Access
 pub fn to_cr8(c: Controls) -> Access
     ensures { result ≡ to_cr8 c }
 {
-    cr8_access(c, CR8_LOAD_EXITING)
+    cr8_access(c, Control::Cr8LoadExiting)
 }
 
 pub fn from_cr8(c: Controls) -> Access
     ensures { result ≡ from_cr8 c }
 {
-    cr8_access(c, CR8_STORE_EXITING)
+    cr8_access(c, Control::Cr8StoreExiting)
 }
 
 fn cr8_qualification(low: u8, register: u8) -> u64

@@ -2,9 +2,7 @@
 ghost use Rattle.std.specs.Prelude.{◌≡◌};
 ghost use Rattle.instructions.specs.Instructions.{rdmsr_redirected, msr_offset, wrmsr_handled, wrmsr_faults, wrmsr_following, wrmsr};
 
-use processor::controls::{
-    APIC_REGISTER_VIRTUALIZATION, Controls, VIRTUAL_DELIVERY, VIRTUALIZE_X2APIC_MODE,
-};
+use processor::controls::{Control, Controls};
 
 // What follows a WRMSR: nothing is stored in the first two cases.
 #[derive(Clone, Copy)]
@@ -20,10 +18,10 @@ pub enum MsrWrite {
 pub fn rdmsr_redirected(c: Controls, index: u32) -> bool
     ensures { result ≡ rdmsr_redirected c index }
 {
-    c.is_on(VIRTUALIZE_X2APIC_MODE)
+    c.has(Control::VirtualizeX2apicMode)
         & (0x800 <= index)
         & (index <= 0x8ff)
-        & (c.is_on(APIC_REGISTER_VIRTUALIZATION) | (index == 0x808))
+        & (c.has(Control::ApicRegisterVirtualization) | (index == 0x808))
 }
 
 // The offset on the page that an index stands for.
@@ -36,8 +34,9 @@ pub fn msr_offset(index: u32) -> u16
 fn wrmsr_handled(c: Controls, index: u32) -> bool
     ensures { result ≡ wrmsr_handled c index }
 {
-    c.is_on(VIRTUALIZE_X2APIC_MODE)
-        & ((index == 0x808) | c.is_on(VIRTUAL_DELIVERY) & ((index == 0x80b) | (index == 0x83f)))
+    c.has(Control::VirtualizeX2apicMode)
+        & ((index == 0x808)
+            | c.has(Control::VirtualDelivery) & ((index == 0x80b) | (index == 0x83f)))
 }
 
 fn wrmsr_faults(index: u32, value: u64) -> bool

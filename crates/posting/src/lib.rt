@@ -10,15 +10,13 @@ use events::answer::Outcome;
 use joining::{clear, join};
 use procedures::outcome::{exit, passthrough};
 use procedures::virtualization::evaluated_quiet;
-use processor::controls::{
-    Controls, EXTERNAL_INTERRUPT_EXITING, PROCESS_POSTED_INTERRUPTS, Record,
-};
+use processor::controls::{Control, Controls, Record};
 
 // Posting is on, and this is the notification vector, all 16 bits of it.
 fn notifies(c: Controls, vector: u32) -> bool
     ensures { result ≡ notifies_by c vector }
 {
-    c.is_on(PROCESS_POSTED_INTERRUPTS) & (vector == c.notification as u32)
+    c.has(Control::ProcessPostedInterrupts) & (vector == c.notification as u32)
 }
 
 // The record with RVI the larger of itself and the highest posted vector.
@@ -49,7 +47,7 @@ pub fn external_interrupt(
     ensures { LeavesLent (external_interrupt page.old «record» descriptor.old vector) (descriptor_out «record» descriptor.old vector) result page.new descriptor.new }
 {
     let controls = record.controls;
-    if !controls.is_on(EXTERNAL_INTERRUPT_EXITING) {
+    if !controls.has(Control::ExternalInterruptExiting) {
         return passthrough(record);
     }
     if !notifies(controls, vector) {

@@ -4,7 +4,7 @@ ghost use Rattle.processor.specs.Logic.{larger};
 ghost use Rattle.priorities.specs.Priorities.{class, low_cleared, ppr, below_threshold, evaluated, open_boundary};
 
 use processor::boundary::Between;
-use processor::controls::{Controls, INTERRUPT_WINDOW_EXITING};
+use processor::controls::{Control, Controls};
 
 // A vector's class.
 pub fn class_of(vector: u8) -> u8
@@ -41,7 +41,7 @@ pub fn below_threshold(c: Controls, vtpr: u8) -> bool
 pub fn evaluates(c: Controls, rvi: u8, vppr: u8) -> bool
     ensures { result ≡ evaluated c rvi vppr }
 {
-    !c.is_on(INTERRUPT_WINDOW_EXITING) & (vppr / 16 < rvi / 16)
+    !c.has(Control::InterruptWindowExiting) & (vppr / 16 < rvi / 16)
 }
 
 // The larger of RVI and a vector.

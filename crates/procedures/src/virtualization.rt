@@ -9,7 +9,7 @@ use crate::outcome::{exit, quiet};
 use events::answer::Outcome;
 use page::bytes::byte_at;
 use priorities::procedures::{below_threshold, evaluates, larger_of, ppr_of};
-use processor::controls::{Record, VIRTUAL_DELIVERY};
+use processor::controls::{Control, Record};
 use processor::offsets::{VIRR, VISR, VPPR, VTPR};
 use registers::vectors::{NONE_COUNTS_AS, highest_or};
 use setting::put_vector;
@@ -43,7 +43,7 @@ pub fn tpr_virtualization(page: &mut [u8], record: Record) -> Outcome
     ensures { Leaves (tpr_virtualization page.old «record») result page.new }
 {
     let controls = record.controls;
-    if controls.is_on(VIRTUAL_DELIVERY) {
+    if controls.has(Control::VirtualDelivery) {
         ppr_virtualization(page, record);
         return evaluated_quiet(page, record);
     }

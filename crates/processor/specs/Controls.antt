@@ -1,6 +1,8 @@
 -- Document 01, "Processor record and controls", with the controls of E1 of document 02.
 use Rattle.std.specs.Prelude.{ℕ, ◌/◌, ◌%◌, ◌^◌, Bool, false, eqb, ltb, if◌then◌else◌}
 use Rattle.processor.specs.Logic.{bit}
+use Rattle.processor.specs.declared.controls.Control.{Control}
+use Rattle.processor.specs.declared.controls.Control.TheVariants.{UseTprShadow, VirtualizeApicAccesses, VirtualizeX2apicMode, ApicRegisterVirtualization, VirtualDelivery, ExternalInterruptExiting, InterruptWindowExiting, Cr8LoadExiting, Cr8StoreExiting, ProcessPostedInterrupts, AcknowledgeOnExit}
 use Rattle.processor.specs.declared.controls.Controls.{Controls}
 use Rattle.processor.specs.declared.controls.Record.{Record}
 
@@ -9,6 +11,19 @@ abbrev pub is_on : Controls → ℕ → Bool
 is_on c k = bit c.flags k
 
 -- Controls, with the bit numbers used when they are stored.
+abbrev pub control_bit : Control → ℕ
+control_bit UseTprShadow = 0
+control_bit VirtualizeApicAccesses = 1
+control_bit VirtualizeX2apicMode = 2
+control_bit ApicRegisterVirtualization = 3
+control_bit VirtualDelivery = 4
+control_bit ExternalInterruptExiting = 5
+control_bit InterruptWindowExiting = 6
+control_bit Cr8LoadExiting = 7
+control_bit Cr8StoreExiting = 8
+control_bit ProcessPostedInterrupts = 9
+control_bit AcknowledgeOnExit = 10
+
 -- 0 use TPR shadow
 abbrev pub use_tpr_shadow : Controls → Bool
 use_tpr_shadow c = is_on c 0

@@ -1,29 +1,43 @@
 // The processor record and the controls in force.
 ghost use Rattle.std.specs.Prelude.{◌≡◌, ◌%◌};
-ghost use Rattle.processor.specs.Controls.{is_on, flags_in_bounds, eoi_exit_word, eoi_exit, fresh, outside};
+ghost use Rattle.processor.specs.Controls.{is_on, control_bit, flags_in_bounds, eoi_exit_word, eoi_exit, fresh, outside};
 
 // The controls, each by the bit at which it is stored.
-pub const USE_TPR_SHADOW: u8 = 0;
+#[derive(Clone, Copy)]
+pub enum Control {
+    UseTprShadow,
+    VirtualizeApicAccesses,
+    VirtualizeX2apicMode,
+    ApicRegisterVirtualization,
+    VirtualDelivery,
+    ExternalInterruptExiting,
+    InterruptWindowExiting,
+    Cr8LoadExiting,
+    Cr8StoreExiting,
+    ProcessPostedInterrupts,
+    AcknowledgeOnExit,
+}
 
-pub const VIRTUALIZE_APIC_ACCESSES: u8 = 1;
-
-pub const VIRTUALIZE_X2APIC_MODE: u8 = 2;
-
-pub const APIC_REGISTER_VIRTUALIZATION: u8 = 3;
-
-pub const VIRTUAL_DELIVERY: u8 = 4;
-
-pub const EXTERNAL_INTERRUPT_EXITING: u8 = 5;
-
-pub const INTERRUPT_WINDOW_EXITING: u8 = 6;
-
-pub const CR8_LOAD_EXITING: u8 = 7;
-
-pub const CR8_STORE_EXITING: u8 = 8;
-
-pub const PROCESS_POSTED_INTERRUPTS: u8 = 9;
-
-pub const ACKNOWLEDGE_ON_EXIT: u8 = 10;
+impl Control {
+    // The bit at which the control is stored.
+    pub fn bit(self) -> u8
+        ensures { result ≡ control_bit self }
+    {
+        match self {
+            Control::UseTprShadow => 0,
+            Control::VirtualizeApicAccesses => 1,
+            Control::VirtualizeX2apicMode => 2,
+            Control::ApicRegisterVirtualization => 3,
+            Control::VirtualDelivery => 4,
+            Control::ExternalInterruptExiting => 5,
+            Control::InterruptWindowExiting => 6,
+            Control::Cr8LoadExiting => 7,
+            Control::Cr8StoreExiting => 8,
+            Control::ProcessPostedInterrupts => 9,
+            Control::AcknowledgeOnExit => 10,
+        }
+    }
+}
 
 // The EOI-exit bits stand in four fields: the theorems of `keeping` and the rows speak of every `Controls`, and an array is in them a list
 // of any length.
@@ -48,12 +62,19 @@ pub struct Record {
 }
 
 impl Controls {
-    // The control of a bit is on; bits count mod 32.
+    // The control of a bit is on, whatever its number; bits count mod 32.
     pub fn is_on(self, control: u8) -> bool
         ensures { result ≡ is_on self (control % 32) }
     {
         let at = control % 32;
         (self.flags >> at) % 2 == 1
+    }
+
+    // The control is on.
+    pub fn has(self, control: Control) -> bool
+        ensures { result ≡ is_on self (control_bit control) }
+    {
+        self.is_on(control.bit())
     }
 
     // The flags have no bit above bit 10.

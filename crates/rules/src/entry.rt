@@ -2,57 +2,57 @@
 ghost use Rattle.std.specs.Prelude.{◌≡◌};
 ghost use Rattle.rules.specs.EntryChecks.{check1, check2, check3, check4, check5, threshold_too_high, check6, failing_check, numbered, exits_at_entry};
 
-use processor::controls::{
-    ACKNOWLEDGE_ON_EXIT, APIC_REGISTER_VIRTUALIZATION, Controls, EXTERNAL_INTERRUPT_EXITING,
-    PROCESS_POSTED_INTERRUPTS, USE_TPR_SHADOW, VIRTUAL_DELIVERY, VIRTUALIZE_APIC_ACCESSES,
-    VIRTUALIZE_X2APIC_MODE,
-};
+use processor::controls::{Control, Controls};
 
 fn check_1(c: Controls) -> bool
     ensures { result ≡ check1 c }
 {
-    !c.is_on(USE_TPR_SHADOW)
-        & (c.is_on(VIRTUALIZE_X2APIC_MODE)
-            | c.is_on(APIC_REGISTER_VIRTUALIZATION)
-            | c.is_on(VIRTUAL_DELIVERY))
+    !c.has(Control::UseTprShadow)
+        & (c.has(Control::VirtualizeX2apicMode)
+            | c.has(Control::ApicRegisterVirtualization)
+            | c.has(Control::VirtualDelivery))
 }
 
 fn check_2(c: Controls) -> bool
     ensures { result ≡ check2 c }
 {
-    c.is_on(VIRTUALIZE_APIC_ACCESSES) & c.is_on(VIRTUALIZE_X2APIC_MODE)
+    c.has(Control::VirtualizeApicAccesses) & c.has(Control::VirtualizeX2apicMode)
 }
 
 fn check_3(c: Controls) -> bool
     ensures { result ≡ check3 c }
 {
-    c.is_on(VIRTUAL_DELIVERY) & !c.is_on(EXTERNAL_INTERRUPT_EXITING)
+    c.has(Control::VirtualDelivery) & !c.has(Control::ExternalInterruptExiting)
 }
 
 fn check_4(c: Controls) -> bool
     ensures { result ≡ check4 c }
 {
-    c.is_on(USE_TPR_SHADOW) & !c.is_on(VIRTUAL_DELIVERY) & (15 < c.threshold)
+    c.has(Control::UseTprShadow) & !c.has(Control::VirtualDelivery) & (15 < c.threshold)
 }
 
 fn check_5(c: Controls) -> bool
     ensures { result ≡ check5 c }
 {
-    c.is_on(PROCESS_POSTED_INTERRUPTS)
-        & (!c.is_on(VIRTUAL_DELIVERY) | !c.is_on(ACKNOWLEDGE_ON_EXIT) | (255 < c.notification))
+    c.has(Control::ProcessPostedInterrupts)
+        & (!c.has(Control::VirtualDelivery)
+            | !c.has(Control::AcknowledgeOnExit)
+            | (255 < c.notification))
 }
 
 // Shadow on, VID off, and the threshold above VTPR's class.
 fn threshold_too_high(c: Controls, vtpr: u8) -> bool
     ensures { result ≡ threshold_too_high c vtpr }
 {
-    c.is_on(USE_TPR_SHADOW) & !c.is_on(VIRTUAL_DELIVERY) & (((vtpr / 16) as u32) < c.threshold)
+    c.has(Control::UseTprShadow)
+        & !c.has(Control::VirtualDelivery)
+        & (((vtpr / 16) as u32) < c.threshold)
 }
 
 fn check_6(c: Controls, vtpr: u8) -> bool
     ensures { result ≡ check6 c vtpr }
 {
-    !c.is_on(VIRTUALIZE_APIC_ACCESSES) & threshold_too_high(c, vtpr)
+    !c.has(Control::VirtualizeApicAccesses) & threshold_too_high(c, vtpr)
 }
 
 // The first failing check, or none.
@@ -84,5 +84,5 @@ pub fn failing_check(c: Controls, vtpr: u8) -> Option<u8>
 pub fn exits_at_entry(c: Controls, vtpr: u8) -> bool
     ensures { result ≡ exits_at_entry c vtpr }
 {
-    c.is_on(VIRTUALIZE_APIC_ACCESSES) & threshold_too_high(c, vtpr)
+    c.has(Control::VirtualizeApicAccesses) & threshold_too_high(c, vtpr)
 }

@@ -3,7 +3,7 @@ ghost use Rattle.std.specs.Prelude.{◌≡◌, T};
 ghost use Rattle.table.specs.Marks.{marked, carries_rule};
 ghost use Rattle.table.specs.Table.{open_offset};
 
-use processor::controls::{APIC_REGISTER_VIRTUALIZATION, Controls, VIRTUAL_DELIVERY};
+use processor::controls::{Control, Controls};
 
 // A bit for each register from 000 to 3F0, in steps of 10H: bit 0 for 000, bit 63 for 3F0. A run of registers has a bit for each.
 const APIC_ID: u64 = 1 << 0x020 / 0x10; // APIC ID
@@ -98,13 +98,13 @@ pub fn open_offset(c: Controls, write: bool, offset: u16) -> bool
     ensures { result ≡ open_offset c write offset }
 {
     let table = open_table();
-    if c.is_on(APIC_REGISTER_VIRTUALIZATION) {
+    if c.has(Control::ApicRegisterVirtualization) {
         if write {
             return (offset % 16 < 4) & marked(table.write, offset);
         }
         return (offset % 16 < 4) & marked(table.read, offset);
     }
-    if c.is_on(VIRTUAL_DELIVERY) {
+    if c.has(Control::VirtualDelivery) {
         return (offset % 16 == 0) & marked(table.delivery, offset);
     }
     (offset % 16 == 0) & marked(table.tpr, offset)

@@ -4,4 +4,4 @@ use Rattle.boundaries.proofs.entry.entered.Goals as goal
 
 pub returns : goal.returns
 unfolding entered
-returns c = simp (← c.is_on.ensures, c.if-is_on.false) (c.quiet.ensures _)
+returns c = simp (← c.has.ensures, c.if-has.false) (c.quiet.ensures _)

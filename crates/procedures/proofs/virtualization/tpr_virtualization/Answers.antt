@@ -5,9 +5,9 @@ use Rattle.procedures.proofs.virtualization.tpr_virtualization.Goals as goal
 pub returns-then-below_threshold : goal.returns-then-below_threshold
 unfolding tpr_virtualization
 returns-then-below_threshold c =
-    simp (← c.is_on.ensures, c.if-is_on.false, ← c.byte_at.ensures, ← c.below_threshold.ensures, c.if-below_threshold.true) (c.exit.ensures _)
+    simp (← c.has.ensures, c.if-has.false, ← c.byte_at.ensures, ← c.below_threshold.ensures, c.if-below_threshold.true) (c.exit.ensures _)
 
 pub returns : goal.returns
 unfolding tpr_virtualization
 returns c =
-    simp (← c.is_on.ensures, c.if-is_on.false, ← c.byte_at.ensures, ← c.below_threshold.ensures, c.if-below_threshold.false) (c.quiet.ensures _)
+    simp (← c.has.ensures, c.if-has.false, ← c.byte_at.ensures, ← c.below_threshold.ensures, c.if-below_threshold.false) (c.quiet.ensures _)
