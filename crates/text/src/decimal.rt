@@ -1,4 +1,5 @@
-// A character, and a number in decimal.
+// A character, and a number in decimal. Each function takes the buffer and the place, and hands back the new one: as a struct with
+// methods the place goes through memory, and a line takes 9 to 45 instructions more.
 ghost use Rattle.std.specs.Prelude.{◌≤◌, ◌<◌, ◌+◌, ◌^◌, ◌≡◌, [], ◌∷◌, length};
 ghost use Rattle.text.specs.Decimal.{digit as digit_of, last_digits as last_digits_of, decimal as decimal_of};
 ghost use Rattle.text.specs.Lines.{field as field_of};
