@@ -1,52 +1,54 @@
-// A character, and a number in decimal.
-ghost use Rattle.std.specs.Prelude.{◌≤◌, ◌<◌, ◌^◌, ◌≡◌, [], ◌∷◌};
-ghost use Rattle.text.specs.Decimal.{digit as digit_of, last_digits, decimal as decimal_of};
+// A character, and a number in decimal. Each function takes the buffer and the place, and hands back the new one: as a struct with
+// methods the place goes through memory, and a line takes 9 to 45 instructions more.
+ghost use Rattle.std.specs.Prelude.{◌≤◌, ◌<◌, ◌+◌, ◌^◌, ◌≡◌, [], ◌∷◌, length};
+ghost use Rattle.text.specs.Decimal.{digit as digit_of, last_digits as last_digits_of, decimal as decimal_of};
 ghost use Rattle.text.specs.Lines.{field as field_of};
 ghost use Rattle.text.specs.Written.{Writes};
 
-// One character, or nothing past the buffer's end.
-pub fn put(out: &mut [u8], at: u64, byte: u8) -> u64
+// What brings each of a number's last four digits to its end, the last one first.
+const TENS: [u64; 4] = [1, 10, 100, 1000];
+
+// One character, or nothing past the buffer's end; a test and no `get_mut`, whose contract leaves open what the buffer becomes.
+fn put(out: &mut [u8], at: u64, byte: u8) -> u64
     requires { at < 2 ^ 40 }
     ensures { Writes out.old at (byte ∷ []) result out.new }
 {
     let place = at as usize;
     if place < out.len() {
         out[place] = byte;
-        return at + 1;
     }
     at + 1
+}
+
+// Characters one after another.
+pub fn put_all(out: &mut [u8], at: u64, text: &[u8]) -> u64
+    requires { at + length text.now < 2 ^ 40 }
+    ensures { Writes out.old at text.now result out.new }
+{
+    let mut next = at;
+    for byte in text {
+        next = put(out, next, *byte);
+    }
+    next
 }
 
 // The character of a number's last digit.
 fn digit(n: u64) -> u8
     ensures { result ≡ digit_of n }
 {
-    0x30 + (n % 10) as u8
+    b'0' + (n % 10) as u8
 }
 
-// A number's last two, three and four digits.
-fn two(out: &mut [u8], at: u64, n: u64) -> u64
-    requires { at < 2 ^ 38 }
-    ensures { Writes out.old at (last_digits 2 n) result out.new }
+// A number's last K digits, at most four.
+fn last_digits<const K: usize>(out: &mut [u8], at: u64, n: u64) -> u64
+    requires { (at < 2 ^ 38) × (K ≤ 4) }
+    ensures { Writes out.old at (last_digits_of K n) result out.new }
 {
-    let next = put(out, at, digit(n / 10));
-    put(out, next, digit(n))
-}
-
-fn three(out: &mut [u8], at: u64, n: u64) -> u64
-    requires { at < 2 ^ 38 }
-    ensures { Writes out.old at (last_digits 3 n) result out.new }
-{
-    let next = two(out, at, n / 10);
-    put(out, next, digit(n))
-}
-
-fn four(out: &mut [u8], at: u64, n: u64) -> u64
-    requires { at < 2 ^ 38 }
-    ensures { Writes out.old at (last_digits 4 n) result out.new }
-{
-    let next = three(out, at, n / 10);
-    put(out, next, digit(n))
+    let mut next = at;
+    for k in (0..K).rev() {
+        next = put(out, next, digit(n / TENS[k]));
+    }
+    next
 }
 
 // One to four digits.
@@ -54,16 +56,12 @@ fn short(out: &mut [u8], at: u64, n: u64) -> u64
     requires { (at < 2 ^ 38) × (n < 10000) }
     ensures { Writes out.old at (decimal_of n) result out.new }
 {
-    if n < 10 {
-        return put(out, at, digit(n));
+    match n {
+        0..=9 => put(out, at, digit(n)),
+        10..=99 => last_digits::<2>(out, at, n),
+        100..=999 => last_digits::<3>(out, at, n),
+        _ => last_digits::<4>(out, at, n),
     }
-    if n < 100 {
-        return two(out, at, n);
-    }
-    if n < 1000 {
-        return three(out, at, n);
-    }
-    four(out, at, n)
 }
 
 // The digits of a number, the highest first: one to four, or those of the rest and the last four.
@@ -75,7 +73,7 @@ fn decimal(out: &mut [u8], at: u64, n: u64) -> u64
         return short(out, at, n);
     }
     let next = decimal(out, at, n / 10000);
-    four(out, next, n)
+    last_digits::<4>(out, next, n)
 }
 
 // A number and the character after it.
