@@ -2,7 +2,7 @@
 ghost use Rattle.std.specs.Prelude.{◌≡◌};
 ghost use Rattle.accesses.specs.Accesses.{past_register, access_exits, memory_access, read_qualification, write_qualification, self_ipi, write_following};
 
-use processor::access::Access;
+use processor::access::{Access, MemoryAccess};
 use processor::controls::{Controls, USE_TPR_SHADOW, VIRTUAL_DELIVERY, VIRTUALIZE_APIC_ACCESSES};
 use processor::offsets::{VEOI, VICR_HI, VICR_LO, VTPR};
 use table::offsets::open_offset;
@@ -23,32 +23,25 @@ fn past_register(offset: u16, size: u8) -> bool
     4 < (offset % 16) as u32 + size as u32
 }
 
-fn access_exits(c: Controls, write: bool, offset: u16, size: u8, fetch: bool, already: bool) -> bool
-    ensures { result ≡ access_exits c write offset size fetch already }
+fn access_exits(c: Controls, write: bool, access: MemoryAccess) -> bool
+    ensures { result ≡ access_exits c write access.offset access.size access.fetch access.already }
 {
     !c.is_on(USE_TPR_SHADOW)
-        | fetch
-        | (size == 8)
-        | already
-        | past_register(offset, size)
-        | !open_offset(c, write, offset)
+        | access.fetch
+        | (access.size == 8)
+        | access.already
+        | past_register(access.offset, access.size)
+        | !open_offset(c, write, access.offset)
 }
 
 // What a memory access comes to: passthrough, exit 44, or redirected to the page.
-pub fn memory_access(
-    c: Controls,
-    write: bool,
-    offset: u16,
-    size: u8,
-    fetch: bool,
-    already: bool,
-) -> Access
-    ensures { result ≡ memory_access c write offset size fetch already }
+pub fn memory_access(c: Controls, write: bool, access: MemoryAccess) -> Access
+    ensures { result ≡ memory_access c write access.offset access.size access.fetch access.already }
 {
     if !c.is_on(VIRTUALIZE_APIC_ACCESSES) {
         return Access::Passthrough;
     }
-    if access_exits(c, write, offset, size, fetch, already) {
+    if access_exits(c, write, access) {
         return Access::Exit;
     }
     Access::Redirected

@@ -7,6 +7,7 @@ use events::answer::Outcome;
 use priorities::procedures::{low_cleared, open_boundary};
 use procedures::delivery::delivered_record;
 use procedures::outcome::{delivered, exit, quiet};
+use processor::boundary::Between;
 use processor::controls::{INTERRUPT_WINDOW_EXITING, Record};
 use processor::offsets::{VIRR, VISR, VPPR};
 use setting::put_vector;
@@ -41,19 +42,8 @@ fn boundary_at(page: &mut [u8], record: Record, is_open: bool) -> Outcome
     quiet(record)
 }
 
-pub fn boundary(
-    page: &mut [u8],
-    record: Record,
-    interrupts: bool,
-    sti: bool,
-    mov_ss: bool,
-    activity: u8,
-) -> Outcome
-    ensures { Leaves (boundary_of page.old «record» interrupts sti mov_ss activity) result page.new }
+pub fn boundary(page: &mut [u8], record: Record, at: Between) -> Outcome
+    ensures { Leaves (boundary_of page.old «record» at.interrupts at.sti at.mov_ss at.activity) result page.new }
 {
-    boundary_at(
-        page,
-        record,
-        open_boundary(interrupts, sti, mov_ss, activity),
-    )
+    boundary_at(page, record, open_boundary(at))
 }

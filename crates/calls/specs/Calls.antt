@@ -1,8 +1,6 @@
 -- How the exported functions hand their numbers over, and what gg_highest and gg_fresh reply.
-use Rattle.std.specs.Prelude.{ℕ, ◌≡◌, not, List, eqb, length, replicate, if◌then◌else◌}
+use Rattle.std.specs.Prelude.{ℕ, ◌≡◌, not, List, Option, None, Some, eqb, length, replicate, if◌then◌else◌}
 use Rattle.processor.specs.Offsets.{virr, visr}
-use Rattle.registers.specs.declared.found.Found.{Found}
-use Rattle.registers.specs.declared.found.Found.TheVariants.{None, Vector}
 use Rattle.registers.specs.Vectors.{highest_set}
 use Rattle.events.specs.Answers.{numbers}
 use Rattle.events.specs.declared.answer.Numbers.{Numbers}
@@ -14,9 +12,9 @@ pub record Handed (n : Numbers) (a f s : ℕ) : Type 0 where
   pub second : s ≡ n.second
 
 -- gg_highest's own answers: 0 refused (1 a page of another length, 2 another base); 1 a vector; 2 none. Numbers not named are 0.
-abbrev pub found_numbers : Found → Numbers
+abbrev pub found_numbers : Option ℕ → Numbers
 found_numbers None = numbers 2 0 0
-found_numbers (Vector v) = numbers 1 v 0
+found_numbers (Some v) = numbers 1 v 0
 
 -- gg_highest reads the page alone. Its claim: the answer and its two values are these.
 unfoldable pub gg_highest : List ℕ → ℕ → Numbers

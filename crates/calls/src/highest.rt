@@ -4,16 +4,15 @@ ghost use Rattle.calls.specs.Calls.{found_numbers, gg_highest};
 
 use events::answer::{Numbers, numbered};
 use processor::offsets::{VIRR, VISR};
-use registers::found::Found;
-use registers::vectors::{highest_request, highest_service};
+use registers::vectors::highest_set;
 
 // What the search finds, in the numbers of its own answers: 1 a vector, 2 none.
-fn found_numbers(found: Found) -> Numbers
+fn found_numbers(found: Option<u8>) -> Numbers
     ensures { result ≡ found_numbers found }
 {
     match found {
-        Found::None => numbered(2, 0, 0),
-        Found::Vector(vector) => numbered(1, vector as u64, 0),
+        None => numbered(2, 0, 0),
+        Some(vector) => numbered(1, vector as u64, 0),
     }
 }
 
@@ -24,11 +23,9 @@ pub fn highest_numbers(page: &[u8], base: u32) -> Numbers
     if page.len() != 4096 {
         return numbered(0, 1, 0);
     }
-    if base == VIRR as u32 {
-        return found_numbers(highest_request(page));
+    match u16::try_from(base) {
+        Ok(VIRR) => found_numbers(highest_set(page, VIRR)),
+        Ok(VISR) => found_numbers(highest_set(page, VISR)),
+        _ => numbered(0, 2, 0),
     }
-    if base == VISR as u32 {
-        return found_numbers(highest_service(page));
-    }
-    numbered(0, 2, 0)
 }

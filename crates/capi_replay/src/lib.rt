@@ -10,6 +10,6 @@ pub fn gg_replay(trace: &[u8], limit: u32, out: &mut [u8], written: &mut u64) ->
     ensures { GgReplays trace.now limit out.old result written.new out.new }
 {
     let text = replay(trace, limit, out);
-    *written = text.written;
-    text.fits as u32
+    *written = text.map_or(0, |text| text.end);
+    text.is_some() as u32
 }

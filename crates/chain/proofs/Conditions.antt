@@ -1,5 +1,5 @@
 -- Conditions 1 and 3 of what a simulator calls. Assumes nothing.
-use Rattle.std.specs.Prelude.{if◌then◌else◌}
+use Rattle.std.specs.Prelude.{Option, None, Some, unwrap_or, if◌then◌else◌}
 use Prim.Native.Nat.{ℕ}
 use mathlib.Core.Path.{◌≡◌, refl, sym, ap, subst}
 use mathlib.Core.Bool.{Bool, true, false, not, ◌&&◌}
@@ -8,9 +8,7 @@ use lib.Dec.{eqb, ltb}
 use lib.ListN.{length}
 use borrow.Author.Tests.{eq-eqb}
 use Rattle.processor.specs.Offsets.{virr, visr}
-use Rattle.registers.specs.declared.found.Found.{Found}
-use Rattle.registers.specs.declared.found.Found.TheVariants.{None, Vector}
-use Rattle.registers.specs.Vectors.{highest_set, or_else, highest}
+use Rattle.registers.specs.Vectors.{highest_set, highest}
 use Rattle.meaning.specs.Input.{Input, given, external, leaves}
 use Rattle.meaning.specs.Step.{step}
 use Rattle.meaning.specs.Run.{Held, start, after}
@@ -74,9 +72,9 @@ leave-refused p b = by (eqb (length b) 48) (record_readable b)
     by true true = replied-stays p b leaves
 
 -- what is found, in gg_highest's numbers, tells the same with 0 in place of none
-tells : (f : Found) → Tells (found_numbers f) (or_else f 0)
+tells : (f : Option ℕ) → Tells (found_numbers f) (unwrap_or f 0)
 tells None = none
-tells (Vector v) = vector v
+tells (Some v) = vector v
 
 -- ---- condition 3: each sentence, of what is lent after any list of calls whose entries have virtual-interrupt delivery on
 module _ (cs : List Call) (b : AllBytes cs) (o : all_on (inputs cs) ≡ true) where

@@ -6,8 +6,8 @@ use lib.Dec.{eqb}
 use lib.Pointwise.{pointwise}
 use Rattle.processor.specs.Rows.{same_bytes}
 
-pub same-bytes-pointwise : (a b : List ℕ) → same_bytes a b ≡ pointwise eqb a b
-same-bytes-pointwise [] [] = refl
-same-bytes-pointwise [] (y ∷ ys) = refl
-same-bytes-pointwise (x ∷ xs) [] = refl
-same-bytes-pointwise (x ∷ xs) (y ∷ ys) = ap (λ q. eqb x y && q) (same-bytes-pointwise xs ys)
+pub same_bytes_pointwise : (a b : List ℕ) → same_bytes a b ≡ pointwise eqb a b
+same_bytes_pointwise [] [] = refl
+same_bytes_pointwise [] (y ∷ ys) = refl
+same_bytes_pointwise (x ∷ xs) [] = refl
+same_bytes_pointwise (x ∷ xs) (y ∷ ys) = ap (λ q. eqb x y && q) (same_bytes_pointwise xs ys)

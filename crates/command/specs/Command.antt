@@ -1,12 +1,12 @@
 -- What the program `replay` decides beside the replay, and the words that it says.
-use Rattle.std.specs.Prelude.{ℕ, Bool, false, List, [], ◌∷◌, eqb, leb, ℤ, pos, negsuc, if◌then◌else◌}
+use Rattle.std.specs.Prelude.{ℕ, Bool, false, List, [], ◌∷◌, Option, Some, None, Result, Ok, Err, eqb, leb, ℤ, pos, negsuc, if◌then◌else◌}
 use Prim.Native.Char.{code}
 use Prim.Native.String as Text
 use Rattle.processor.specs.Rows.{same_bytes}
 use Rattle.command.specs.declared.Asked.{Asked}
 use Rattle.command.specs.declared.Asked.TheVariants.{StandardInput, File, Help, Wrong}
-use Rattle.command.specs.declared.Piece.{Piece}
-use Rattle.command.specs.declared.Piece.TheVariants.{Bytes, End, Interrupted, Failed}
+use Rattle.command.specs.declared.Unread.{Unread}
+use Rattle.command.specs.declared.Unread.TheVariants.{Interrupted, Failed}
 use Rattle.command.specs.declared.Deed.{Deed}
 use Rattle.command.specs.declared.Deed.TheVariants.{Opening, Reading, Writing}
 
@@ -29,9 +29,9 @@ interrupted (pos n) = eqb n 4
 interrupted (negsuc n) = false
 
 -- A read answers how many bytes it moved, none at the end of the input; below 0 it has failed, and errno says why.
-unfoldable pub piece_of : ℤ → ℤ → Piece
-piece_of (negsuc n) error = if interrupted error then Interrupted else Failed
-piece_of (pos n) error = if eqb n 0 then End else Bytes n
+unfoldable pub piece_of : ℤ → ℤ → Result (Option ℕ) Unread
+piece_of (negsuc n) error = if interrupted error then Err Interrupted else Err Failed
+piece_of (pos n) error = if eqb n 0 then Ok None else Ok (Some n)
 
 -- what stands before the name of what could not be opened, read or written
 unfoldable pub words_of : Deed → List ℕ

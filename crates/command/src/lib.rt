@@ -16,11 +16,9 @@ pub enum Asked {
     Wrong,
 }
 
-// What a read says: so many bytes more, the end of the input, that a signal came before any byte, or that it failed.
+// Why a read brings nothing: a signal came before any byte, or it failed.
 #[derive(Clone, Copy)]
-pub enum Piece {
-    Bytes(usize),
-    End,
+pub enum Unread {
     Interrupted,
     Failed,
 }
@@ -34,50 +32,43 @@ pub enum Deed {
 }
 
 // By the number of arguments, the program's own name among them, and the first after it.
+#[tactic(auto, using(crate::proofs::Laws::same_bytes_pointwise), unfolding(crate::specs::Command::asked_of))]
 pub fn asked_of(count: usize, first: &[u8]) -> Asked
     ensures { result ≡ asked_of count first.now }
 {
-    if count <= 1 {
-        return Asked::StandardInput;
+    match count {
+        0 | 1 => Asked::StandardInput,
+        2 if first == b"--help".as_slice() => Asked::Help,
+        2 => Asked::File,
+        _ => Asked::Wrong,
     }
-    if 3 <= count {
-        return Asked::Wrong;
-    }
-    if first == b"--help".as_slice() {
-        return Asked::Help;
-    }
-    Asked::File
 }
 
-// By what `read` answered, and errno.
-pub fn piece_of(got: isize, error: i32) -> Piece
+// By what `read` answered, and errno: so many bytes more, or none at the end of the input.
+pub fn piece_of(got: isize, error: i32) -> Result<Option<usize>, Unread>
     ensures { result ≡ piece_of got error }
 {
-    if got < 0 {
-        if error == EINTR {
-            return Piece::Interrupted;
-        }
-        return Piece::Failed;
+    match usize::try_from(got) {
+        Ok(0) => Ok(None),
+        Ok(bytes) => Ok(Some(bytes)),
+        Err(_) if error == EINTR => Err(Unread::Interrupted),
+        Err(_) => Err(Unread::Failed),
     }
-    if got == 0 {
-        return Piece::End;
-    }
-    Piece::Bytes(got as usize)
 }
 
 // What stands before the name of what could not be opened, read or written.
-pub fn words_of(deed: Deed) -> [u8; 22]
-    ensures { result ≡ words_of deed }
+pub fn words_of(deed: Deed) -> &'static str
+    ensures { result.now ≡ words_of deed }
 {
     match deed {
-        Deed::Opening => *b"replay: error opening ",
-        Deed::Reading => *b"replay: error reading ",
-        Deed::Writing => *b"replay: error writing ",
+        Deed::Opening => "replay: error opening ",
+        Deed::Reading => "replay: error reading ",
+        Deed::Writing => "replay: error writing ",
     }
 }
 
-pub fn usage() -> [u8; 128]
-    ensures { result ≡ usage_text }
+pub fn usage() -> &'static str
+    ensures { result.now ≡ usage_text }
 {
-    *b"usage: replay [FILE]\nReplays the trace in FILE, or on standard input where no file is named, and prints a line for each record.\n"
+    "usage: replay [FILE]\nReplays the trace in FILE, or on standard input where no file is named, and prints a line for each record.\n"
 }

@@ -1,6 +1,6 @@
 -- Condition 1 besides: a guest that leaves and is not refused has left, and where an external interrupt's answer is quiet no vector is posted
 -- and no notification outstanding in the descriptor that it leaves. Assumes nothing.
-use Rattle.std.specs.Prelude.{if◌then◌else◌}
+use Rattle.std.specs.Prelude.{Ok, if◌then◌else◌}
 use Prim.Native.Nat.{ℕ, zero, suc, ◌-◌, ◌/◌, ◌%◌, ◌^◌, ◌≤◌, ◌<◌}
 use native.Mathlib.Nat.{not-suc-le-zero, zero-div}
 use native.Mathlib.Omega.{arith}
@@ -13,7 +13,6 @@ use lib.Seq.{get_or-set_same, get_or-set_other, set_out}
 use borrow.Author.Tests.{eqb-true, eqb-false, ltb-true, ltb-false}
 use Rattle.processor.specs.Logic.{bit}
 use Rattle.processor.specs.declared.controls.Record.{Record}
-use Rattle.events.specs.declared.answer.Refusal.TheVariants.{None}
 use Rattle.page.specs.Page.{byte_at}
 use Rattle.registers.specs.Vectors.{put_bit}
 use Rattle.descriptor.specs.Descriptor.{posted, outstanding_byte, cleared_below, cleared}
@@ -29,7 +28,7 @@ use Rattle.conditions.proofs.Condition1.{external-answered}
 
 -- ---- a guest that leaves
 module _ (p : List ℕ) (r : Record) where
-  has-left : refusal_of p r leaves ≡ None → Outside p r (step p r leaves)
+  has-left : refusal_of p r leaves ≡ Ok tt → Outside p r (step p r leaves)
   unfolding step step_by carried_out left
   has-left e = simp e (record { answer = refl; root = refl; unrecognised = refl; page = refl; rvi = refl; svi = refl; controls = refl })
 

@@ -13,7 +13,9 @@ use Rattle.processor.specs.declared.controls.Record.{Record}
 use Rattle.events.specs.Answers.{numbers}
 use Rattle.events.specs.declared.answer.Numbers.{Numbers}
 use Rattle.events.specs.declared.answer.Refusal.{Refusal}
-use Rattle.events.specs.declared.answer.Refusal.TheVariants.{None, By}
+use Rattle.std.specs.Prelude.{⊤, Result, Ok, Err}
+use Rattle.events.specs.Answers.{refusal_number, refusal_check}
+use Rattle.events.specs.declared.answer.Refusal.TheVariants.{PageLength, DescriptorLength, Bounds, Mode, EntryCheck}
 use Rattle.events.specs.Events.{in_bounds, allowed}
 use Rattle.events.specs.declared.event.Event.{Event}
 use Rattle.events.specs.declared.event.Event.TheVariants.{Entry, Request, MemoryRead, MemoryWrite, ToCr8, FromCr8, Rdmsr, Wrmsr, Boundary}
@@ -95,11 +97,11 @@ module _ (p : List ℕ) (r : Record) where
 
   module _ (i : Input) where
     -- the step of a refused input, and of any other
-    refused-step : (number check : ℕ) → refusal_of p r i ≡ By number check → Refused number check p r (step p r i)
+    refused-step : (refusal : Refusal) → refusal_of p r i ≡ Err refusal → Refused (refusal_number refusal) (refusal_check refusal) p r (step p r i)
     unfolding step step_by
-    refused-step number check e = simp e (record { answer = refl; page = refl; state = refl })
+    refused-step refusal e = simp e (record { answer = refl; page = refl; state = refl })
 
-    other_step : refusal_of p r i ≡ None → CarriedOut p r (step p r i)
+    other_step : refusal_of p r i ≡ Ok tt → CarriedOut p r (step p r i)
     unfolding step step_by
     other_step e = simp e (carried-out (ends p r i e))
 
@@ -107,34 +109,34 @@ module _ (p : List ℕ) (r : Record) where
     pub nothing-changes : changes_nothing (step p r i).answer ≡ true → ((step p r i).page ≡ p) × ((step p r i).state ≡ r)
     nothing-changes t = by (refusal_of p r i) refl
       where
-        by : (x : Refusal) → refusal_of p r i ≡ x → ((step p r i).page ≡ p) × ((step p r i).state ≡ r)
-        by None e = ((other_step e).page t, (other_step e).state t)
-        by (By number check) e = ((refused-step number check e).page, (refused-step number check e).state)
+        by : (x : Result ⊤ Refusal) → refusal_of p r i ≡ x → ((step p r i).page ≡ p) × ((step p r i).state ≡ r)
+        by (Ok passed) e = ((other_step e).page t, (other_step e).state t)
+        by (Err refusal) e = ((refused-step refusal e).page, (refused-step refusal e).state)
 
   -- an entry that fails a check
   failed : (e : Event) → eqb (length p) 4096 ≡ true → in_bounds r e ≡ true → allowed r e ≡ true → (c : Controls) → e ≡ Entry c → eqb (failing_check c (byte_at p vtpr)) 0 ≡ false → Refused 4 (failing_check c (byte_at p vtpr)) p r (step p r (given e))
   failed e l f m c q n =
       subst (λ k. Refused 4 k p r (step p r (given e))) (ap (event_check p) q)
-      (refused-step (given e) 4 (event_check p e) (refusal-4 p r (given e) l refl f m (ap (λ (x : Event). eqb (event_check p x) 0) q ∙ n)))
+      (refused-step (given e) (EntryCheck (event_check p e)) (refusal-4 p r (given e) l refl f m (ap (λ (x : Event). eqb (event_check p x) 0) q ∙ n)))
 
   -- an event whose checks, if it has any, pass
   unchecked : (e : Event) → ((c : Controls) → e ≡ Entry c → eqb (failing_check c (byte_at p vtpr)) 0 ≡ true) → eqb (event_check p e) 0 ≡ true
   unchecked (Entry c) h = h c refl
   unchecked (Request vector) h = refl
-  unchecked (MemoryRead offset size fetch already) h = refl
-  unchecked (MemoryWrite offset size fetch already value) h = refl
+  unchecked (MemoryRead access) h = refl
+  unchecked (MemoryWrite access value) h = refl
   unchecked (ToCr8 value register) h = refl
   unchecked (FromCr8 register) h = refl
   unchecked (Rdmsr index) h = refl
   unchecked (Wrmsr index value) h = refl
-  unchecked (Boundary interrupts sti movSs activity) h = refl
+  unchecked (Boundary at) h = refl
 
   -- condition 1, of any event
   pub answered : (e : Event) → Answered p r e (step p r (given e))
   answered e = record {
-    wrong_length = λ l. refused-step (given e) 1 0 (refusal-1 p r (given e) l);
-    malformed = λ l f. refused-step (given e) 2 0 (refusal-2 p r (given e) l refl f);
-    wrong_mode = λ l f m. refused-step (given e) 3 0 (refusal-3 p r (given e) l refl f m);
+    wrong_length = λ l. refused-step (given e) PageLength (refusal-1 p r (given e) l);
+    malformed = λ l f. refused-step (given e) Bounds (refusal-2 p r (given e) l refl f);
+    wrong_mode = λ l f m. refused-step (given e) Mode (refusal-3 p r (given e) l refl f m);
     failed_check = λ l f m c q n. failed e l f m c q n;
     other = λ l f m h. other_step (given e) (no-refusal p r (given e) l refl f m (unchecked e h));
   }
@@ -142,8 +144,8 @@ module _ (p : List ℕ) (r : Record) where
   -- and of a guest that leaves
   pub leave-answered : LeaveAnswered p r (step p r leaves)
   leave-answered = record {
-    malformed = λ f. refused-step leaves 2 0 (refusal-2 p r leaves refl refl f);
-    wrong_mode = λ f m. refused-step leaves 3 0 (refusal-3 p r leaves refl refl f m);
+    malformed = λ f. refused-step leaves Bounds (refusal-2 p r leaves refl refl f);
+    wrong_mode = λ f m. refused-step leaves Mode (refusal-3 p r leaves refl refl f m);
     other = λ f m. other_step leaves (no-refusal p r leaves refl refl f m refl);
   }
 
@@ -168,17 +170,17 @@ module _ (p : List ℕ) (r : Record) where
     unfolding step step_by carried_out descriptor_after descriptor_by
     descriptor-left = by (refusal_of p r (external d vector)) refl
       where
-        by : (x : Refusal) → refusal_of p r (external d vector) ≡ x → DescriptorLeft d (step p r (external d vector)) (descriptor_after p r d vector)
-        by None e = simp e carried-lent
-        by (By number check) e = simp e (stays_lent _ refl)
+        by : (x : Result ⊤ Refusal) → refusal_of p r (external d vector) ≡ x → DescriptorLeft d (step p r (external d vector)) (descriptor_after p r d vector)
+        by (Ok passed) e = simp e carried-lent
+        by (Err refusal) e = simp e (stays_lent _ refl)
 
     -- and of an external interrupt, with any descriptor
     pub external-answered : ExternalAnswered p r d vector (step p r (external d vector)) (descriptor_after p r d vector)
     external-answered = record {
-      wrong_length = λ l. refused-step (external d vector) 1 0 (refusal-1 p r (external d vector) l);
-      wrong_descriptor = λ l n. refused-step (external d vector) 5 0 (refusal-5 p r (external d vector) l n);
-      malformed = λ l n f. refused-step (external d vector) 2 0 (refusal-2 p r (external d vector) l n f);
-      wrong_mode = λ l n f m. refused-step (external d vector) 3 0 (refusal-3 p r (external d vector) l n f m);
+      wrong_length = λ l. refused-step (external d vector) PageLength (refusal-1 p r (external d vector) l);
+      wrong_descriptor = λ l n. refused-step (external d vector) DescriptorLength (refusal-5 p r (external d vector) l n);
+      malformed = λ l n f. refused-step (external d vector) Bounds (refusal-2 p r (external d vector) l n f);
+      wrong_mode = λ l n f m. refused-step (external d vector) Mode (refusal-3 p r (external d vector) l n f m);
       other = λ l n f m. other_step (external d vector) (no-refusal p r (external d vector) l n f m refl);
       descriptor = descriptor-left;
     }

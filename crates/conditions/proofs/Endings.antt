@@ -1,6 +1,6 @@
 -- How an input that gets no refusal ends: one walk through the definitions, one case for each way to end, with all that is asked of
 -- it: condition 1, the moves and the widths are read off the cases. Assumes nothing.
-use Rattle.std.specs.Prelude.{if◌then◌else◌}
+use Rattle.std.specs.Prelude.{Ok, if◌then◌else◌}
 use Prim.Native.Nat.{ℕ, ◌+◌, ◌*◌, ◌%◌, ◌≤◌, ◌<◌}
 use native.Mathlib.Omega.{arith}
 use mathlib.Core.Path.{◌≡◌, refl, sym, ap, subst}
@@ -10,6 +10,7 @@ use mathlib.Core.List.{List, [], ◌∷◌}
 use lib.Dec.{eqb, leb, ltb, lit<}
 use lib.ListN.{length}
 use borrow.Author.Tests.{eqb-true, ltb-true, leb-true, ne_eqb}
+use Rattle.processor.specs.Access.{access, between}
 use Rattle.processor.specs.Controls.{virtualize_x2apic_mode, virtual_delivery, virtualize_apic_accesses, use_tpr_shadow, external_interrupt_exiting, interrupt_window_exiting, flags_in_bounds, with_guest, with_recognised, with_controls}
 use Rattle.processor.specs.Offsets.{vtpr, veoi, vicr_lo, vicr_hi}
 use Rattle.processor.specs.declared.access.Access.{Access}
@@ -19,7 +20,6 @@ use Rattle.processor.specs.declared.controls.Record.{Record}
 use Rattle.processor.proofs.Tests.{left, right, none_left, none_right}
 use Rattle.events.specs.Answers.{numbers}
 use Rattle.events.specs.declared.answer.Numbers.{Numbers}
-use Rattle.events.specs.declared.answer.Refusal.TheVariants.{None}
 use Rattle.events.specs.Events.{offset_in_bounds, size_in_bounds, value_in_bounds, event_in_bounds, root_only, allowed}
 use Rattle.events.specs.declared.event.Event.{Event}
 use Rattle.events.specs.declared.event.Event.TheVariants.{Entry, Request, MemoryRead, MemoryWrite, ToCr8, FromCr8, Rdmsr, Wrmsr, Boundary}
@@ -125,7 +125,7 @@ module _ (p : List ℕ) (r : Record) (c : Controls) where
 -- ---- a write to memory
 module _ (p : List ℕ) (r : Record) (offset size : ℕ) (fetch already : Bool) (value : ℕ) (l : length p ≡ 4096) (t : r.guest ≡ true) where
   abbrev write : Input
-  write = given (MemoryWrite offset size fetch already value)
+  write = given (MemoryWrite (access offset size fetch already) value)
 
   abbrev written-page : List ℕ
   written-page = store_at p offset size value
@@ -153,7 +153,7 @@ module _ (p : List ℕ) (r : Record) (offset size : ℕ) (fetch already : Bool) 
       above m l h e = omega arith
   follows k s n false false false false ew ex ey ez = plain-exit p r write 56 offset refl k
 
-  ends-write : event_in_bounds (MemoryWrite offset size fetch already value) ≡ true → Ends p r write (memory_write p r offset size fetch already value)
+  ends-write : event_in_bounds (MemoryWrite (access offset size fetch already) value) ≡ true → Ends p r write (memory_write p r offset size fetch already value)
   unfolding memory_write memory_access write_by written write_following event_in_bounds value_in_bounds
   ends-write e = by (not (virtualize_apic_accesses r.controls)) (access_exits r.controls true offset size fetch already) refl
     where
@@ -216,10 +216,10 @@ module _ (p : List ℕ) (r : Record) (index value : ℕ) (t : r.guest ≡ true) 
 
 -- ---- the other events
 module _ (p : List ℕ) (r : Record) where
-  ends_read : (x : Access) (offset size : ℕ) (fetch already : Bool) → Ends p r (given (MemoryRead offset size fetch already)) (read_by x p r offset size fetch)
+  ends_read : (x : Access) (offset size : ℕ) (fetch already : Bool) → Ends p r (given (MemoryRead (access offset size fetch already))) (read_by x p r offset size fetch)
   unfolding read_by
   ends_read Passthrough offset size fetch already = passes
-  ends_read Exit offset size fetch already = plain-exit p r (given (MemoryRead offset size fetch already)) 44 (read_qualification offset fetch) refl none
+  ends_read Exit offset size fetch already = plain-exit p r (given (MemoryRead (access offset size fetch already))) 44 (read_qualification offset fetch) refl none
   ends_read Redirected offset size fetch already = reads (read_at p offset size)
 
   ends-to-cr8 : (x : Access) (value register : ℕ) → r.guest ≡ true → Ends p r (given (ToCr8 value register)) (to_cr8_by x p r value register)
@@ -242,12 +242,12 @@ module _ (p : List ℕ) (r : Record) where
       by true = reads (long_at p (msr_offset index))
       by false = passes
 
-  ends-boundary : (interrupts sti movSs : Bool) (activity : ℕ) → r.guest ≡ true → Ends p r (given (Boundary interrupts sti movSs activity)) (boundary p r interrupts sti movSs activity)
+  ends-boundary : (interrupts sti movSs : Bool) (activity : ℕ) → r.guest ≡ true → Ends p r (given (Boundary (between interrupts sti movSs activity))) (boundary p r interrupts sti movSs activity)
   unfolding boundary boundary_at move_of event_move
   ends-boundary interrupts sti movSs activity t = by (open_boundary interrupts sti movSs activity && interrupt_window_exiting r.controls) (open_boundary interrupts sti movSs activity && r.recognised) refl
     where
-      by : (x y : Bool) → (open_boundary interrupts sti movSs activity && r.recognised) ≡ y → Ends p r (given (Boundary interrupts sti movSs activity)) (if x then exit 7 0 p r else (if y then delivery p r else quiet p r))
-      by true y q = plain-exit p r (given (Boundary interrupts sti movSs activity)) 7 0 refl none
+      by : (x y : Bool) → (open_boundary interrupts sti movSs activity && r.recognised) ≡ y → Ends p r (given (Boundary (between interrupts sti movSs activity))) (if x then exit 7 0 p r else (if y then delivery p r else quiet p r))
+      by true y q = plain-exit p r (given (Boundary (between interrupts sti movSs activity))) 7 0 refl none
       by false true q = delivering refl t (right (open_boundary interrupts sti movSs activity) r.recognised q)
       by false false q = stores refl none
 
@@ -268,13 +268,13 @@ module _ (p : List ℕ) (r : Record) where
   unfolding event_out root_only move_of event_move memory_read mov_to_cr8 mov_from_cr8
   ends-event (Entry c) l i a = ends-entry p r c
   ends-event (Request vector) l i a = requesting vector refl (ltb-true vector 256 (unfold event_in_bounds in i)) (not-true r.guest (unfold allowed in a))
-  ends-event (MemoryRead offset size fetch already) l i a = ends_read (memory_access r.controls false offset size fetch already) offset size fetch already
-  ends-event (MemoryWrite offset size fetch already value) l i a = ends-write p r offset size fetch already value l (in-guest (MemoryWrite offset size fetch already value) refl a) i
+  ends-event (MemoryRead a) l i m = ends_read (memory_access r.controls false a.offset a.size a.fetch a.already) a.offset a.size a.fetch a.already
+  ends-event (MemoryWrite a value) l i m = ends-write p r a.offset a.size a.fetch a.already value l (in-guest (MemoryWrite a value) refl m) i
   ends-event (ToCr8 value register) l i a = ends-to-cr8 (to_cr8 r.controls) value register (in-guest (ToCr8 value register) refl a)
   ends-event (FromCr8 register) l i a = ends-from-cr8 (from_cr8 r.controls) register
   ends-event (Rdmsr index) l i a = ends-rdmsr index
   ends-event (Wrmsr index value) l i a = ends-wrmsr p r index value (in-guest (Wrmsr index value) refl a)
-  ends-event (Boundary interrupts sti movSs activity) l i a = ends-boundary interrupts sti movSs activity (in-guest (Boundary interrupts sti movSs activity) refl a)
+  ends-event (Boundary at) l i a = ends-boundary at.interrupts at.sti at.mov_ss at.activity (in-guest (Boundary at) refl a)
 
   -- every input that passes the refusals' tests
   ends-passed : (i : Input) → Passed p r i → Ends p r i (carried_out p r i)
@@ -283,5 +283,5 @@ module _ (p : List ℕ) (r : Record) where
   ends-passed (external d vector) t = ends-external d vector t.mode
   ends-passed leaves t = leaving refl
 
-  pub ends : (i : Input) → refusal_of p r i ≡ None → Ends p r i (carried_out p r i)
+  pub ends : (i : Input) → refusal_of p r i ≡ Ok tt → Ends p r i (carried_out p r i)
   ends i e = ends-passed i (passed p r i e)

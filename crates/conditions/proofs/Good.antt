@@ -59,15 +59,15 @@ stays-event : (e : Event) (n : Numbers) → is_quiet_or45 n ≡ false → is_del
 unfolding event_move
 stays-event (Entry controls) n a d = refl
 stays-event (Request vector) n a d = ap (λ q. raises_if q (vector ∷ [])) (none_left (is_quiet n) _ a)
-stays-event (MemoryRead offset size fetch already) n a d = refl
-stays-event (MemoryWrite offset size fetch already value) n a d =
-    no_move (eqb offset vicr_lo) (eqb offset veoi) (is_quiet n) (is_quiet_or45 n) (value % 0x100 ∷ []) (none_left (is_quiet n) _ a) a
+stays-event (MemoryRead access) n a d = refl
+stays-event (MemoryWrite access value) n a d =
+    no_move (eqb access.offset vicr_lo) (eqb access.offset veoi) (is_quiet n) (is_quiet_or45 n) (value % 0x100 ∷ []) (none_left (is_quiet n) _ a) a
 stays-event (ToCr8 value register) n a d = refl
 stays-event (FromCr8 register) n a d = refl
 stays-event (Rdmsr index) n a d = refl
 stays-event (Wrmsr index value) n a d =
     no_move (eqb index 0x83f) (eqb index 0x80b) (is_quiet n) (is_quiet_or45 n) (value % 0x100 ∷ []) (none_left (is_quiet n) _ a) a
-stays-event (Boundary interrupts sti movSs activity) n a d = ap (λ q. delivers_if q n.first) d
+stays-event (Boundary at) n a d = ap (λ q. delivers_if q n.first) d
 
 stays-other : (i : Input) (n : Numbers) → is_quiet_or45 n ≡ false → is_delivered n ≡ false → move_of i n ≡ stays
 unfolding move_of

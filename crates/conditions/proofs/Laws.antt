@@ -10,7 +10,8 @@ use Rattle.processor.specs.Offsets.{virr, visr}
 use Rattle.processor.specs.declared.controls.Record.{Record}
 use Rattle.events.specs.Answers.{numbers}
 use Rattle.events.specs.declared.answer.Refusal.{Refusal}
-use Rattle.events.specs.declared.answer.Refusal.TheVariants.{None, By}
+use Rattle.std.specs.Prelude.{⊤, Result, Ok, Err}
+use Rattle.events.specs.Answers.{refusal_number, refusal_check}
 use Rattle.events.specs.declared.event.Event.TheVariants.{Entry}
 use Rattle.page.specs.Page.{IsPage}
 use Rattle.registers.specs.Vectors.{highest}
@@ -38,9 +39,9 @@ module _ (p : List ℕ) (r : Record) (i : Input) (g : IsPage p) (b : ByteRecord 
   unfolding step
   laws = by (refusal_of p r i) refl
     where
-      by : (x : Refusal) → refusal_of p r i ≡ x → Good p r i (step_by x p r i)
-      by None e = unfold step_by in good p r i g b (ends p r i e)
-      by (By number check) e = unfold step_by in good-same p r i g b (numbers 0 number check) refl refl
+      by : (x : Result ⊤ Refusal) → refusal_of p r i ≡ x → Good p r i (step_by x p r i)
+      by (Ok passed) e = unfold step_by in good p r i g b (ends p r i e)
+      by (Err refusal) e = unfold step_by in good-same p r i g b (numbers 0 (refusal_number refusal) (refusal_check refusal)) refl refl
 
   -- the moves law: an input does to VIRR, VISR, RVI and SVI what its answer names
   pub moves : Moved (move_of i (step p r i).answer) p r (step p r i)
@@ -92,9 +93,9 @@ module _ (p : List ℕ) (r : Record) (i : Input) where
   unfolding step
   controls-after = by (refusal_of p r i) refl
     where
-      by : (x : Refusal) → refusal_of p r i ≡ x → ((step_by x p r i).state.controls ≡ r.controls) ⊎ (i ≡ given (Entry (step_by x p r i).state.controls))
-      by None e = unfold step_by in taken (ends p r i e)
-      by (By number check) e = unfold step_by in inl refl
+      by : (x : Result ⊤ Refusal) → refusal_of p r i ≡ x → ((step_by x p r i).state.controls ≡ r.controls) ⊎ (i ≡ given (Entry (step_by x p r i).state.controls))
+      by (Ok passed) e = unfold step_by in taken (ends p r i e)
+      by (Err refusal) e = unfold step_by in inl refl
 
   controls-fit : ControlsFit r.controls → InputFits i → ControlsFit (step p r i).state.controls
   controls-fit f o = ⊎_elim (λ q. subst ControlsFit (sym q) f) (λ q. o _ q) controls-after

@@ -1,5 +1,5 @@
 -- A posting: what it raises, what it keeps of the page, and what it leaves of the descriptor. Assumes nothing.
-use Rattle.std.specs.Prelude.{if◌then◌else◌}
+use Rattle.std.specs.Prelude.{Some, if◌then◌else◌}
 use Prim.Native.Nat.{ℕ, zero, suc, ◌+◌, ◌-◌, ◌/◌, ◌%◌, ◌≤◌, ◌<◌}
 use native.Mathlib.Nat.{le_refl}
 use native.Mathlib.Omega.{arith}
@@ -13,7 +13,6 @@ use borrow.Author.Tests.{eqb-true, le-ltb, ltb-true, ltb-false}
 use Rattle.processor.specs.Logic.{bit, larger, member}
 use Rattle.processor.specs.Offsets.{vppr, visr, virr}
 use Rattle.page.specs.Page.{byte_at, IsPage}
-use Rattle.registers.specs.declared.found.Found.TheVariants.{Vector}
 use Rattle.registers.specs.Vectors.{vector_byte, put_bit, is_set, highest_of}
 use Rattle.register_laws.proofs.Registers.{vector-within}
 use Rattle.descriptor.specs.Descriptor.{posted, places_below, posted_vectors, highest_posted, raised_by, place_of, joined, outstanding_byte, cleared_below, cleared}
@@ -66,7 +65,7 @@ unfolding places_below highest_of raised_by
 largest-places f zero m = refl
 largest-places f (suc v) m = by (f v) (largest-places f v m)
   where
-    by : (b : Bool) → largest m (places_below f v) ≡ raised_by m (highest_of f v) → largest m (if b then (v ∷ places_below f v) else places_below f v) ≡ raised_by m (if b then Vector v else highest_of f v)
+    by : (b : Bool) → largest m (places_below f v) ≡ raised_by m (highest_of f v) → largest m (if b then (v ∷ places_below f v) else places_below f v) ≡ raised_by m (if b then Some v else highest_of f v)
     by true h = none-larger f v (larger m v) (up-to-larger m v)
     by false h = h
 

@@ -12,13 +12,13 @@ use Rattle.conditions.specs.Moves.{Move, stays, raises, delivers, retires, move_
 abbrev pub event_on : Event → Bool
 event_on (Entry controls) = virtual_delivery controls
 event_on (Request vector) = true
-event_on (MemoryRead offset size fetch already) = true
-event_on (MemoryWrite offset size fetch already value) = true
+event_on (MemoryRead access) = true
+event_on (MemoryWrite access value) = true
 event_on (ToCr8 value register) = true
 event_on (FromCr8 register) = true
 event_on (Rdmsr index) = true
 event_on (Wrmsr index value) = true
-event_on (Boundary interrupts sti movSs activity) = true
+event_on (Boundary at) = true
 
 abbrev pub delivery_on : Input → Bool
 delivery_on (given e) = event_on e

@@ -58,13 +58,13 @@ wrmsr_move index value n =
 unfoldable pub event_move : Event → Numbers → Move
 event_move (Entry controls) n = stays
 event_move (Request vector) n = raises_if (is_quiet n) (vector ∷ [])
-event_move (MemoryRead offset size fetch already) n = stays
-event_move (MemoryWrite offset size fetch already value) n = write_move offset value n
+event_move (MemoryRead access) n = stays
+event_move (MemoryWrite access value) n = write_move access.offset value n
 event_move (ToCr8 value register) n = stays
 event_move (FromCr8 register) n = stays
 event_move (Rdmsr index) n = stays
 event_move (Wrmsr index value) n = wrmsr_move index value n
-event_move (Boundary interrupts sti movSs activity) n = delivers_if (is_delivered n) n.first
+event_move (Boundary at) n = delivers_if (is_delivered n) n.first
 
 -- which input and answer go with which move; a posting that was carried out raises the posted vectors
 unfoldable pub move_of : Input → Numbers → Move

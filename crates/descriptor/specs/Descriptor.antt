@@ -1,12 +1,10 @@
 -- Document 02, E1: the lent descriptor, which vectors are posted in it, and what becomes of them.
-use Rattle.std.specs.Prelude.{ℕ, zero, suc, ◌+◌, ◌*◌, ◌/◌, ◌%◌, Bool, false, List, [], ◌∷◌, eqb, length, if◌then◌else◌}
+use Rattle.std.specs.Prelude.{ℕ, zero, suc, ◌+◌, ◌*◌, ◌/◌, ◌%◌, Bool, false, List, [], ◌∷◌, Option, None, Some, eqb, length, if◌then◌else◌}
 use Rattle.std.specs.Int.Bits.{bit_or}
 use Rattle.processor.specs.Logic.{bit, larger}
 use Rattle.processor.specs.Offsets.{virr}
 use Rattle.page.specs.Page.{byte_at}
 use Rattle.stores.specs.Stores.{set_byte}
-use Rattle.registers.specs.declared.found.Found.{Found}
-use Rattle.registers.specs.declared.found.Found.TheVariants.{None, Vector}
 use Rattle.registers.specs.Vectors.{vector_byte, put_bit, highest_of}
 
 -- a lent 64-byte descriptor
@@ -22,7 +20,7 @@ abbrev pub outstanding_byte : ℕ
 outstanding_byte = 32
 
 -- the highest posted vector, or none
-abbrev pub highest_posted : List ℕ → Found
+abbrev pub highest_posted : List ℕ → Option ℕ
 highest_posted d = highest_of (posted d) 256
 
 -- the set places below n of a row of bits, the highest first
@@ -35,9 +33,9 @@ abbrev pub posted_vectors : List ℕ → List ℕ
 posted_vectors d = places_below (posted d) 256
 
 -- RVI becomes the larger of itself and the highest posted vector (unchanged if none)
-unfoldable pub raised_by : ℕ → Found → ℕ
+unfoldable pub raised_by : ℕ → Option ℕ → ℕ
 raised_by rvi None = rvi
-raised_by rvi (Vector v) = larger rvi v
+raised_by rvi (Some v) = larger rvi v
 
 -- where VIRR has the eight vectors of the descriptor's byte k
 abbrev pub place_of : ℕ → ℕ

@@ -13,7 +13,7 @@ replay-determined = record {
     result = record { numbers = c.answer k; state = record { «record» = (c.session k).held.state; controls = (c.session k).controls } };
     page = (c.session k).held.page;
   });
-  replays = λ t limit o. only _ (λ x c k. record { result = record { fits = c.fits k; written = c.written k; count = c.count k }; buffer = c.buffer k });
+  replays = λ t limit o. only _ (λ x c k. record { result = c.told k; buffer = c.buffer k });
   program = λ b n o. only _ (λ x c k. record { result = (itself c).written k; buffer = (itself c).text k });
   gg_replays = λ t limit o. only _ (λ x c k. record { answer = c.fits k; written = c.number k; buffer = c.buffer k });
 }

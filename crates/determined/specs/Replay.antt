@@ -1,5 +1,5 @@
 -- The claims of the functions that a replay is made of allow one outcome: text, reader, session, replay.
-use Rattle.std.specs.Prelude.{ℕ, ◌≡◌, List}
+use Rattle.std.specs.Prelude.{ℕ, ◌≡◌, List, Option}
 use Rattle.std.specs.Borrow.{Bor}
 use Rattle.text.specs.Written.{Writes}
 use Rattle.trace.specs.Format.{next_place}
@@ -7,7 +7,7 @@ use Rattle.reader.specs.declared.Reader.{Reader}
 use Rattle.recorded.specs.Session.{Session}
 use Rattle.session.specs.declared.Told.{Told}
 use Rattle.session.specs.Told.{Begins, Tells}
-use Rattle.playback.specs.declared.Replayed.{Replayed}
+use Rattle.playback.specs.declared.Text.{Text}
 use Rattle.playback.specs.Replays.{Replays, GgReplays}
 use Rattle.program.specs.Program.{PrintsHeld}
 use Rattle.determined.specs.Determines.{Determines}
@@ -23,6 +23,6 @@ pub record ReplayDetermined : Type 0 where
   pub tells : (s : Session) (b : List ℕ) → Determines (λ (x : record { result : Told; page : List ℕ }). Tells s b x.result x.page)
   -- the length of the program's text, and the buffer
   pub program : (b : List ℕ) (n : ℕ) (o : List ℕ) → Determines (λ (x : record { result : ℕ; buffer : List ℕ }). PrintsHeld b n o x.result x.buffer)
-  -- whether the text fits, bytes written, records counted, and the buffer; from C, the answer, the bytes written and the buffer
-  pub replays : (t : List ℕ) (limit : ℕ) (o : List ℕ) → Determines (λ (x : record { result : Replayed; buffer : List ℕ }). Replays t limit o x.result x.buffer)
+  -- where the text fits, its end and the records counted; and the buffer; from C, the answer, the bytes written and the buffer
+  pub replays : (t : List ℕ) (limit : ℕ) (o : List ℕ) → Determines (λ (x : record { result : Option Text; buffer : List ℕ }). Replays t limit o x.result x.buffer)
   pub gg_replays : (t : List ℕ) (limit : ℕ) (o : List ℕ) → Determines (λ (x : record { answer : ℕ; written : ℕ; buffer : List ℕ }). GgReplays t limit o x.answer x.written x.buffer)

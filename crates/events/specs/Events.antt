@@ -33,13 +33,13 @@ activity_in_bounds activity = ltb activity 4
 unfoldable pub event_in_bounds : Event → Bool
 event_in_bounds (Entry controls) = flags_in_bounds controls
 event_in_bounds (Request vector) = vector_in_bounds vector
-event_in_bounds (MemoryRead offset size fetch already) = offset_in_bounds offset && size_in_bounds size
-event_in_bounds (MemoryWrite offset size fetch already value) = offset_in_bounds offset && value_in_bounds size value && not fetch
+event_in_bounds (MemoryRead access) = offset_in_bounds access.offset && size_in_bounds access.size
+event_in_bounds (MemoryWrite access value) = offset_in_bounds access.offset && value_in_bounds access.size value && not access.fetch
 event_in_bounds (ToCr8 value register) = cr8_in_bounds value && cr8_in_bounds register
 event_in_bounds (FromCr8 register) = cr8_in_bounds register
 event_in_bounds (Rdmsr index) = true
 event_in_bounds (Wrmsr index value) = true
-event_in_bounds (Boundary interrupts sti movSs activity) = activity_in_bounds activity
+event_in_bounds (Boundary at) = activity_in_bounds at.activity
 
 -- No field of the record or of the event is outside its bounds.
 abbrev pub in_bounds : Record → Event → Bool
@@ -49,13 +49,13 @@ in_bounds r e = flags_in_bounds r.controls && event_in_bounds e
 unfoldable pub root_only : Event → Bool
 root_only (Entry controls) = true
 root_only (Request vector) = true
-root_only (MemoryRead offset size fetch already) = false
-root_only (MemoryWrite offset size fetch already value) = false
+root_only (MemoryRead access) = false
+root_only (MemoryWrite access value) = false
 root_only (ToCr8 value register) = false
 root_only (FromCr8 register) = false
 root_only (Rdmsr index) = false
 root_only (Wrmsr index value) = false
-root_only (Boundary interrupts sti movSs activity) = false
+root_only (Boundary at) = false
 
 -- The event is allowed in the record's mode.
 unfoldable pub allowed : Record → Event → Bool

@@ -1,25 +1,53 @@
 // What comes back of an input: the answer with its record, and its numbers.
 ghost use Rattle.std.specs.Prelude.{◌≡◌};
-ghost use Rattle.events.specs.Answers.{numbers, numbers_of};
+ghost use Rattle.events.specs.Answers.{refusal_number, refusal_check, numbers, numbers_of};
 
 use processor::controls::Record;
 
+// Why an input is refused; refusal 4 says which entry check fails.
+#[derive(Clone, Copy)]
+pub enum Refusal {
+    PageLength,
+    DescriptorLength,
+    Bounds,
+    Mode,
+    EntryCheck(u8),
+}
+
+impl Refusal {
+    // The number that document 01 refuses by.
+    pub fn number(self) -> u8
+        ensures { result ≡ refusal_number self }
+    {
+        match self {
+            Refusal::PageLength => 1,
+            Refusal::DescriptorLength => 5,
+            Refusal::Bounds => 2,
+            Refusal::Mode => 3,
+            Refusal::EntryCheck(_) => 4,
+        }
+    }
+
+    // The check of refusal 4, else 0.
+    pub fn check(self) -> u8
+        ensures { result ≡ refusal_check self }
+    {
+        match self {
+            Refusal::EntryCheck(check) => check,
+            _ => 0,
+        }
+    }
+}
+
 #[derive(Clone, Copy)]
 pub enum Answer {
-    Refused { number: u8, check: u8 },
+    Refused(Refusal),
     Redirected(u64),
     Passthrough,
     Fault,
     Exit { reason: u32, qualification: u64 },
     Delivered(u8),
     Quiet,
-}
-
-// Whether an input is refused: by which number, and for refusal 4 by which check.
-#[derive(Clone, Copy)]
-pub enum Refusal {
-    None,
-    By { number: u8, check: u8 },
 }
 
 #[derive(Clone, Copy)]
@@ -48,19 +76,25 @@ pub fn numbered(answer: u32, first: u64, second: u64) -> Numbers
 }
 
 // The numbers of each answer.
-pub fn numbers_of(answer: Answer) -> Numbers
-    ensures { result ≡ numbers_of answer }
-{
-    match answer {
-        Answer::Refused { number, check } => numbered(0, number as u64, check as u64),
-        Answer::Redirected(value) => numbered(1, value, 0),
-        Answer::Passthrough => numbered(2, 0, 0),
-        Answer::Fault => numbered(3, 0, 0),
-        Answer::Exit {
-            reason,
-            qualification,
-        } => numbered(4, reason as u64, qualification),
-        Answer::Delivered(vector) => numbered(5, vector as u64, 0),
-        Answer::Quiet => numbered(6, 0, 0),
+impl From<Answer> for Numbers {
+    ghost from_gives = { λ answer numbers. numbers ≡ numbers_of answer };
+
+    fn from(answer: Answer) -> Numbers {
+        match answer {
+            Answer::Refused(refusal) => numbered(
+                0,
+                refusal.number().into(),
+                refusal.check().into(),
+            ),
+            Answer::Redirected(value) => numbered(1, value, 0),
+            Answer::Passthrough => numbered(2, 0, 0),
+            Answer::Fault => numbered(3, 0, 0),
+            Answer::Exit {
+                reason,
+                qualification,
+            } => numbered(4, reason.into(), qualification),
+            Answer::Delivered(vector) => numbered(5, vector.into(), 0),
+            Answer::Quiet => numbered(6, 0, 0),
+        }
     }
 }

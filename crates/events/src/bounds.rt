@@ -2,6 +2,8 @@
 ghost use Rattle.std.specs.Prelude.{◌≡◌, not, ◌&&◌};
 ghost use Rattle.events.specs.Events.{vector_in_bounds, offset_in_bounds, size_in_bounds, value_in_bounds};
 
+use processor::access::MemoryAccess;
+
 // How many there are: vectors, offsets on a page, CR8 values, registers, activities.
 pub const VECTORS: u16 = 256;
 
@@ -35,15 +37,15 @@ fn value_in_bounds(size: u8, value: u64) -> bool
 }
 
 // The fields of a memory read.
-pub fn memory_read_in_bounds(offset: u16, size: u8) -> bool
-    ensures { result ≡ (offset_in_bounds offset && size_in_bounds size) }
+pub fn memory_read_in_bounds(access: MemoryAccess) -> bool
+    ensures { result ≡ (offset_in_bounds access.offset && size_in_bounds access.size) }
 {
-    (offset < OFFSETS) & size_in_bounds(size)
+    (access.offset < OFFSETS) & size_in_bounds(access.size)
 }
 
 // The fields of a memory write, whose fetch flag must be off.
-pub fn memory_write_in_bounds(offset: u16, size: u8, fetch: bool, value: u64) -> bool
-    ensures { result ≡ (offset_in_bounds offset && value_in_bounds size value && not fetch) }
+pub fn memory_write_in_bounds(access: MemoryAccess, value: u64) -> bool
+    ensures { result ≡ (offset_in_bounds access.offset && value_in_bounds access.size value && not access.fetch) }
 {
-    (offset < OFFSETS) & value_in_bounds(size, value) & !fetch
+    (access.offset < OFFSETS) & value_in_bounds(access.size, value) & !access.fetch
 }

@@ -6,41 +6,21 @@ use crate::bounds::{
     ACTIVITIES, CR8_VALUES, REGISTERS, memory_read_in_bounds, memory_write_in_bounds,
     vector_in_bounds,
 };
+use processor::access::MemoryAccess;
+use processor::boundary::Between;
 use processor::controls::{Controls, Record};
 
 #[derive(Clone, Copy)]
 pub enum Event {
     Entry(Controls),
     Request(u16),
-    MemoryRead {
-        offset: u16,
-        size: u8,
-        fetch: bool,
-        already: bool,
-    },
-    MemoryWrite {
-        offset: u16,
-        size: u8,
-        fetch: bool,
-        already: bool,
-        value: u64,
-    },
-    ToCr8 {
-        value: u8,
-        register: u8,
-    },
+    MemoryRead(MemoryAccess),
+    MemoryWrite { access: MemoryAccess, value: u64 },
+    ToCr8 { value: u8, register: u8 },
     FromCr8(u8),
     Rdmsr(u32),
-    Wrmsr {
-        index: u32,
-        value: u64,
-    },
-    Boundary {
-        interrupts: bool,
-        sti: bool,
-        mov_ss: bool,
-        activity: u8,
-    },
+    Wrmsr { index: u32, value: u64 },
+    Boundary(Between),
 }
 
 // Every field of the event is within its bounds.
@@ -50,29 +30,12 @@ fn event_in_bounds(event: Event) -> bool
     match event {
         Event::Entry(controls) => controls.flags_in_bounds(),
         Event::Request(vector) => vector_in_bounds(vector as u32),
-        Event::MemoryRead {
-            offset,
-            size,
-            fetch: _,
-            already: _,
-        } => memory_read_in_bounds(offset, size),
-        Event::MemoryWrite {
-            offset,
-            size,
-            fetch,
-            already: _,
-            value,
-        } => memory_write_in_bounds(offset, size, fetch, value),
+        Event::MemoryRead(access) => memory_read_in_bounds(access),
+        Event::MemoryWrite { access, value } => memory_write_in_bounds(access, value),
         Event::ToCr8 { value, register } => (value < CR8_VALUES) & (register < REGISTERS),
         Event::FromCr8(register) => register < REGISTERS,
-        Event::Rdmsr(_) => true,
-        Event::Wrmsr { index: _, value: _ } => true,
-        Event::Boundary {
-            interrupts: _,
-            sti: _,
-            mov_ss: _,
-            activity,
-        } => activity < ACTIVITIES,
+        Event::Rdmsr(_) | Event::Wrmsr { .. } => true,
+        Event::Boundary(at) => at.activity < ACTIVITIES,
     }
 }
 
@@ -89,34 +52,11 @@ fn root_only(event: Event) -> bool
     ensures { result ≡ root_only event }
 {
     match event {
-        Event::Entry(_) => true,
-        Event::Request(_) => true,
-        Event::MemoryRead {
-            offset: _,
-            size: _,
-            fetch: _,
-            already: _,
-        } => false,
-        Event::MemoryWrite {
-            offset: _,
-            size: _,
-            fetch: _,
-            already: _,
-            value: _,
-        } => false,
-        Event::ToCr8 {
-            value: _,
-            register: _,
-        } => false,
-        Event::FromCr8(_) => false,
-        Event::Rdmsr(_) => false,
-        Event::Wrmsr { index: _, value: _ } => false,
-        Event::Boundary {
-            interrupts: _,
-            sti: _,
-            mov_ss: _,
-            activity: _,
-        } => false,
+        Event::Entry(_) | Event::Request(_) => true,
+        Event::MemoryRead(_) | Event::MemoryWrite { .. } => false,
+        Event::ToCr8 { .. } | Event::FromCr8(_) => false,
+        Event::Rdmsr(_) | Event::Wrmsr { .. } => false,
+        Event::Boundary(_) => false,
     }
 }
 

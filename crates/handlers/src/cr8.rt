@@ -16,8 +16,7 @@ use stores::bytes::set_word;
 pub fn mov_to_cr8(page: &mut [u8], record: Record, value: u8, register: u8) -> Outcome
     ensures { Leaves (mov_to_cr8 page.old «record» value register) result page.new }
 {
-    let access = to_cr8(record.controls);
-    match access {
+    match to_cr8(record.controls) {
         Access::Passthrough => passthrough(record),
         Access::Exit => exit(record, 28, to_cr8_qualification(register)),
         Access::Redirected => {
@@ -30,8 +29,7 @@ pub fn mov_to_cr8(page: &mut [u8], record: Record, value: u8, register: u8) -> O
 pub fn mov_from_cr8(page: &[u8], record: Record, register: u8) -> Outcome
     ensures { Leaves (mov_from_cr8 page.now «record» register) result page.now }
 {
-    let access = from_cr8(record.controls);
-    match access {
+    match from_cr8(record.controls) {
         Access::Passthrough => passthrough(record),
         Access::Exit => exit(record, 28, from_cr8_qualification(register)),
         Access::Redirected => redirected(record, class_of(byte_at(page, VTPR)) as u64),

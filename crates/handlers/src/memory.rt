@@ -10,28 +10,19 @@ use events::answer::Outcome;
 use page::bytes::{byte_at, word_at};
 use procedures::outcome::{exit, passthrough, quiet, redirected};
 use procedures::virtualization::{eoi_end, retired, self_ipi_virtualization, tpr_virtualization};
-use processor::access::Access;
+use processor::access::{Access, MemoryAccess};
 use processor::controls::Record;
 use processor::offsets::{VEOI, VICR_HI, VICR_LO, VTPR};
 use sizes::bytes::{read_at, store_at};
 use stores::bytes::{set_byte, set_word};
 
-pub fn memory_read(
-    page: &[u8],
-    record: Record,
-    offset: u16,
-    size: u8,
-    fetch: bool,
-    already: bool,
-) -> Outcome
-    ensures { Leaves (memory_read page.now «record» offset size fetch already) result page.now }
+pub fn memory_read(page: &[u8], record: Record, access: MemoryAccess) -> Outcome
+    ensures { Leaves (memory_read page.now «record» access.offset access.size access.fetch access.already) result page.now }
 {
-    let controls = record.controls;
-    let access = memory_access(controls, false, offset, size, fetch, already);
-    match access {
+    match memory_access(record.controls, false, access) {
         Access::Passthrough => passthrough(record),
-        Access::Exit => exit(record, 44, read_qualification(offset, fetch)),
-        Access::Redirected => redirected(record, read_at(page, offset, size)),
+        Access::Exit => exit(record, 44, read_qualification(access.offset, access.fetch)),
+        Access::Redirected => redirected(record, read_at(page, access.offset, access.size)),
     }
 }
 
@@ -78,25 +69,15 @@ fn written(page: &mut [u8], record: Record, offset: u16) -> Outcome
     follow(page, record, offset, write_following(controls, offset, icr))
 }
 
-pub fn memory_write(
-    page: &mut [u8],
-    record: Record,
-    offset: u16,
-    size: u8,
-    fetch: bool,
-    already: bool,
-    value: u64,
-) -> Outcome
-    ensures { Leaves (memory_write page.old «record» offset size fetch already value) result page.new }
+pub fn memory_write(page: &mut [u8], record: Record, access: MemoryAccess, value: u64) -> Outcome
+    ensures { Leaves (memory_write page.old «record» access.offset access.size access.fetch access.already value) result page.new }
 {
-    let controls = record.controls;
-    let access = memory_access(controls, true, offset, size, fetch, already);
-    match access {
+    match memory_access(record.controls, true, access) {
         Access::Passthrough => passthrough(record),
-        Access::Exit => exit(record, 44, write_qualification(offset)),
+        Access::Exit => exit(record, 44, write_qualification(access.offset)),
         Access::Redirected => {
-            store_at(page, offset, size, value);
-            written(page, record, offset)
+            store_at(page, access.offset, access.size, value);
+            written(page, record, access.offset)
         }
     }
 }

@@ -15,11 +15,9 @@ const OUTSTANDING: u16 = 32;
 pub fn join(page: &mut [u8], descriptor: &[u8])
     ensures { page.new ≡ joined page.old descriptor.now }
 {
-    let mut word: u16 = 0;
-    while word < 8 {
+    for word in 0..8u16 {
         let at = VIRR + 16 * word;
         set_word(page, at, word_at(page, at) | word_at(descriptor, 4 * word));
-        word = word + 1;
     }
 }
 

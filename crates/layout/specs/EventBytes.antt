@@ -1,5 +1,7 @@
 -- One event as bytes: exactly 48, little-endian. A field that the kind does not name is ignored.
 use Rattle.std.specs.Prelude.{ℕ, ◌%◌, Bool, true, false, ◌&&◌, List, eqb, ltb, if◌then◌else◌}
+use Rattle.processor.specs.Access.{access, between}
+use Rattle.processor.specs.declared.access.MemoryAccess.{MemoryAccess}
 use Rattle.processor.specs.Logic.{bit}
 use Rattle.events.specs.declared.event.Event.{Event}
 use Rattle.events.specs.declared.event.Event.TheVariants.{Entry, Request, MemoryRead, MemoryWrite, ToCr8, FromCr8, Rdmsr, Wrmsr, Boundary}
@@ -45,11 +47,14 @@ event_readable e =
     else false
 
 -- memory: number is the offset; flags bit 0 fetch, bit 1 already virtualised
+abbrev pub access_of : List ℕ → MemoryAccess
+access_of e = access (number_of e % 0x1_0000) (size_of e) (bit (flags_of e) 0) (bit (flags_of e) 1)
+
 unfoldable pub memory_read_of : List ℕ → Event
-memory_read_of e = MemoryRead (number_of e % 0x1_0000) (size_of e) (bit (flags_of e) 0) (bit (flags_of e) 1)
+memory_read_of e = MemoryRead (access_of e)
 
 unfoldable pub memory_write_of : List ℕ → Event
-memory_write_of e = MemoryWrite (number_of e % 0x1_0000) (size_of e) (bit (flags_of e) 0) (bit (flags_of e) 1) (value_of e)
+memory_write_of e = MemoryWrite (access_of e) (value_of e)
 
 -- CR8: detail is the register
 unfoldable pub to_cr8_of : List ℕ → Event
@@ -61,7 +66,7 @@ wrmsr_of e = Wrmsr (number_of e) (value_of e)
 
 -- boundary: flags bit 0 IF, bit 1 STI, bit 2 MOV SS; detail is the activity
 unfoldable pub boundary_of : List ℕ → Event
-boundary_of e = Boundary (bit (flags_of e) 0) (bit (flags_of e) 1) (bit (flags_of e) 2) (detail_of e)
+boundary_of e = Boundary (between (bit (flags_of e) 0) (bit (flags_of e) 1) (bit (flags_of e) 2) (detail_of e))
 
 -- request: number is the vector
 unfoldable pub request_of : List ℕ → Event

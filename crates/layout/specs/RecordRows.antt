@@ -2,6 +2,7 @@
 -- is read from them.
 use Rattle.std.specs.Prelude.{ℕ, ◌≡◌, true, false, List, [], ◌∷◌, ◌++◌, replicate}
 use Rattle.events.specs.declared.event.Event.TheVariants.{Entry, Request, MemoryRead, MemoryWrite, ToCr8, FromCr8, Rdmsr, Wrmsr, Boundary}
+use Rattle.processor.specs.Access.{access, between}
 use Rattle.processor.specs.declared.controls.Controls.{Controls}
 use Rattle.processor.specs.declared.controls.Record.{Record}
 use Rattle.layout.specs.RecordBytes.{record_readable, record_of}
@@ -52,19 +53,19 @@ UnreadRecord b = record_readable b ≡ false
 pub record RecordRows : Type 0 where
   -- each kind with every byte different: a field that the kind does not name is ignored
   pub entry_of : Reads (four_bytes 1 0xf1 0xf2 0xf3 ++ control_bytes none₂) (Entry different_controls)
-  pub read_of : Reads (different 2 2 0 0) (MemoryRead 0x1514 0x11 false true)
-  pub read_of_none : Reads (different 2 0 0 0) (MemoryRead 0x1514 0x11 false false)
-  pub read_of_both : Reads (different 2 3 0 0) (MemoryRead 0x1514 0x11 true true)
-  pub write_of : Reads (different 3 1 0 0) (MemoryWrite 0x1514 0x11 true false 0x1f1e_1d1c_1b1a_1918)
-  pub write_of_none : Reads (different 3 0 0 0) (MemoryWrite 0x1514 0x11 false false 0x1f1e_1d1c_1b1a_1918)
-  pub write_of_both : Reads (different 3 3 0 0) (MemoryWrite 0x1514 0x11 true true 0x1f1e_1d1c_1b1a_1918)
+  pub read_of : Reads (different 2 2 0 0) (MemoryRead (access 0x1514 0x11 false true))
+  pub read_of_none : Reads (different 2 0 0 0) (MemoryRead (access 0x1514 0x11 false false))
+  pub read_of_both : Reads (different 2 3 0 0) (MemoryRead (access 0x1514 0x11 true true))
+  pub write_of : Reads (different 3 1 0 0) (MemoryWrite (access 0x1514 0x11 true false) 0x1f1e_1d1c_1b1a_1918)
+  pub write_of_none : Reads (different 3 0 0 0) (MemoryWrite (access 0x1514 0x11 false false) 0x1f1e_1d1c_1b1a_1918)
+  pub write_of_both : Reads (different 3 3 0 0) (MemoryWrite (access 0x1514 0x11 true true) 0x1f1e_1d1c_1b1a_1918)
   pub to_of : Reads (event_bytes (four_bytes 4 0x11 0x12 0x13) (four_bytes 0x14 0x15 0x16 0x17) (0x18 ∷ replicate 7 0)) (ToCr8 0x18 0x13)
   pub from_of : Reads (different 5 0xff 0x16 0x17) (FromCr8 0x13)
   pub rdmsr_of : Reads (different 6 0xff 0x16 0x17) (Rdmsr 0x1716_1514)
   pub wrmsr_of : Reads (different 7 0xff 0x16 0x17) (Wrmsr 0x1716_1514 0x1f1e_1d1c_1b1a_1918)
-  pub boundary_of : Reads (different 8 5 0x16 0x17) (Boundary true false true 0x13)
-  pub boundary_of_none : Reads (different 8 0 0x16 0x17) (Boundary false false false 0x13)
-  pub boundary_of_all : Reads (different 8 7 0x16 0x17) (Boundary true true true 0x13)
+  pub boundary_of : Reads (different 8 5 0x16 0x17) (Boundary (between true false true 0x13))
+  pub boundary_of_none : Reads (different 8 0 0x16 0x17) (Boundary (between false false false 0x13))
+  pub boundary_of_all : Reads (different 8 7 0x16 0x17) (Boundary (between true true true 0x13))
   pub request_of : Reads (different 9 0xff 0 0) (Request 0x1514)
   -- the smallest that cannot be held, and the largest that can, at each place
   pub read_flags : Unread (different 2 4 0 0)
@@ -72,8 +73,8 @@ pub record RecordRows : Type 0 where
   pub write_flags_above : Unread (different 3 0x80 0 0)
   pub read_offset : Unread (different 2 0 1 0)
   pub read_offset_above : Unread (different 2 0 0 1)
-  pub read_offset_largest : Reads (event_bytes (four_bytes 2 4 0 0) (four_bytes 0xff 0xff 0 0) no_value) (MemoryRead 0xffff 4 false false)
-  pub write_offset_largest : Reads (event_bytes (four_bytes 3 4 0 0) (four_bytes 0xff 0xff 0 0) no_value) (MemoryWrite 0xffff 4 false false 0)
+  pub read_offset_largest : Reads (event_bytes (four_bytes 2 4 0 0) (four_bytes 0xff 0xff 0 0) no_value) (MemoryRead (access 0xffff 4 false false))
+  pub write_offset_largest : Reads (event_bytes (four_bytes 3 4 0 0) (four_bytes 0xff 0xff 0 0) no_value) (MemoryWrite (access 0xffff 4 false false) 0)
   pub write_offset_above : Unread (different 3 0 0 0x80)
   pub to_value : Unread (different 4 0 0 0)
   pub to_value_above : Unread (event_bytes (four_bytes 4 0 0 9) (four_bytes 0 0 0 0) (replicate 7 0 ++ (1 ∷ [])))

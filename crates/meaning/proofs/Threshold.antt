@@ -13,7 +13,7 @@ use Rattle.processor.specs.declared.controls.Controls.{Controls}
 use Rattle.processor.specs.declared.controls.Record.{Record}
 use Rattle.events.specs.Events.{in_bounds, allowed}
 use Rattle.events.specs.declared.answer.Refusal.{Refusal}
-use Rattle.events.specs.declared.answer.Refusal.TheVariants.{None, By}
+use Rattle.std.specs.Prelude.{⊤, Result, Ok, Err}
 use Rattle.events.specs.declared.event.Event.TheVariants.{Entry}
 use Rattle.page.specs.Page.{byte_at}
 use Rattle.rules.specs.EntryChecks.{check1, check2, check3, check4, check5, threshold_too_high, check6, failing_check}
@@ -60,10 +60,10 @@ module _ (p : List ℕ) (r : Record) (c : Controls) (h : threshold_too_high c (b
   unfolding step step_by carried_out event_out entry
   kept_out g = by (refusal_of p r here) refl
     where
-      entered : (x : Bool) → virtualize_apic_accesses c ≡ x → refusal_of p r here ≡ None → (step p r here).state.guest ≡ false
+      entered : (x : Bool) → virtualize_apic_accesses c ≡ x → refusal_of p r here ≡ Ok tt → (step p r here).state.guest ≡ false
       entered true a e = simp (e, a, h)
       entered false a e = absurd (true≢false (sym (passed p r here e).check ∙ some-check c (byte_at p vtpr) (simp (a, h))))
 
-      by : (x : Refusal) → refusal_of p r here ≡ x → (step p r here).state.guest ≡ false
-      by None e = entered (virtualize_apic_accesses c) refl e
-      by (By number check) e = simp e g
+      by : (x : Result ⊤ Refusal) → refusal_of p r here ≡ x → (step p r here).state.guest ≡ false
+      by (Ok passed) e = entered (virtualize_apic_accesses c) refl e
+      by (Err refusal) e = simp e g

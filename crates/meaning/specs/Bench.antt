@@ -4,6 +4,7 @@ use Rattle.std.specs.Prelude.{ℕ, Bool, true, false, ◌&&◌, List, [], ◌∷
 use Rattle.std.specs.Bool.{beq}
 use Rattle.events.specs.declared.answer.Numbers.{Numbers}
 use Rattle.events.specs.Answers.{numbers}
+use Rattle.processor.specs.Access.{access, between}
 use Rattle.processor.specs.declared.controls.Controls.{Controls}
 use Rattle.processor.specs.declared.controls.Record.{Record}
 use Rattle.events.specs.declared.event.Event.{Event}
@@ -143,7 +144,7 @@ abbrev refused : ℕ → ℕ → Numbers
 refused number check = numbers 0 number check
 
 abbrev pub boundary_open : Event
-boundary_open = Boundary true false false 0
+boundary_open = Boundary (between true false false 0)
 
 -- events as inputs
 abbrev pub each : List Event → List Input
@@ -151,10 +152,10 @@ each [] = []
 each (e ∷ es) = given e ∷ each es
 
 abbrev write300 : ℕ → Event
-write300 value = MemoryWrite 0x300 4 false false value
+write300 value = MemoryWrite (access 0x300 4 false false) value
 
 abbrev write_eoi : Event
-write_eoi = MemoryWrite 0x0b0 4 false false 0
+write_eoi = MemoryWrite (access 0x0b0 4 false false) 0
 
 -- a row that starts fresh
 abbrev from_fresh : List Input → List Numbers → Record → PageEnd → Row
@@ -242,13 +243,13 @@ k9 =
 -- the byte read is VTPR's byte 3, which isn't 0
 abbrev pub k10 : List Row
 k10 =
-    in_guest controls_r (set_byte zero_page 0x083 0x5c) (MemoryRead 0x083 1 false false) (numbers 1 0x5c 0) true [] ∷
-    in_guest controls_m (set_byte zero_page 0x083 0x5c) (MemoryRead 0x083 1 false false) (exit 44 0x083) false [] ∷ []
+    in_guest controls_r (set_byte zero_page 0x083 0x5c) (MemoryRead (access 0x083 1 false false)) (numbers 1 0x5c 0) true [] ∷
+    in_guest controls_m (set_byte zero_page 0x083 0x5c) (MemoryRead (access 0x083 1 false false)) (exit 44 0x083) false [] ∷ []
 
 abbrev pub k11 : List Row
 k11 =
-    in_guest controls_r zero_page (MemoryWrite 0x082 2 false false 0xabcd) (exit 56 0x082) false (word 0x080 0xabcd_0000 ∷ []) ∷
-    in_guest controls_r zero_page (MemoryWrite 0x0a0 4 false false 1) (exit 44 0x10a0) false (word 0x0a0 0 ∷ []) ∷ []
+    in_guest controls_r zero_page (MemoryWrite (access 0x082 2 false false) 0xabcd) (exit 56 0x082) false (word 0x080 0xabcd_0000 ∷ []) ∷
+    in_guest controls_r zero_page (MemoryWrite (access 0x0a0 4 false false) 1) (exit 44 0x10a0) false (word 0x0a0 0 ∷ []) ∷ []
 
 abbrev pub k12 : Row
 k12 = from_fresh (each (Request 0 ∷ Entry controls_v ∷ [])) (quiet ∷ quiet ∷ []) (guest_with controls_v 0) (words (word 0x200 1 ∷ []))

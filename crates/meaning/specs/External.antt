@@ -1,11 +1,10 @@
 -- Document 02, E1: an external interrupt with a vector, in guest mode.
-use Rattle.std.specs.Prelude.{ℕ, ◌≡◌, Bool, not, ◌&&◌, List, eqb, if◌then◌else◌}
+use Rattle.std.specs.Prelude.{ℕ, ◌≡◌, Bool, not, ◌&&◌, List, eqb, ⊤, Result, Ok, Err, if◌then◌else◌}
 use Rattle.processor.specs.Controls.{external_interrupt_exiting, process_posted_interrupts, with_rvi}
 use Rattle.processor.specs.declared.controls.Controls.{Controls}
 use Rattle.processor.specs.declared.controls.Record.{Record}
 use Rattle.events.specs.declared.answer.Outcome.{Outcome}
 use Rattle.events.specs.declared.answer.Refusal.{Refusal}
-use Rattle.events.specs.declared.answer.Refusal.TheVariants.{None, By}
 use Rattle.descriptor.specs.Descriptor.{highest_posted, raised_by, joined, cleared}
 use Rattle.meaning.specs.After.{After, Leaves, passthrough, exit}
 use Rattle.meaning.specs.Procedures.{evaluated_quiet}
@@ -37,9 +36,9 @@ descriptor_out r d vector =
     else cleared d
 
 -- the descriptor that an external interrupt leaves, by its refusal
-unfoldable pub descriptor_by : Refusal → Record → List ℕ → ℕ → List ℕ
-descriptor_by None r d vector = descriptor_out r d vector
-descriptor_by (By number check) r d vector = d
+unfoldable pub descriptor_by : Result ⊤ Refusal → Record → List ℕ → ℕ → List ℕ
+descriptor_by (Ok passed) r d vector = descriptor_out r d vector
+descriptor_by (Err refusal) r d vector = d
 
 -- The claim of every function that carries out an external interrupt: what any input leaves, and the descriptor's bytes.
 pub record LeavesLent (a : After) (d : List ℕ) (r : Outcome) (p d' : List ℕ) : Type 0 where

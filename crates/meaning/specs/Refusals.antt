@@ -1,16 +1,16 @@
 -- Document 01, "What comes back", with E1 of document 02: the refusals, in the order in which they are tested. An input gets the first
 -- that applies, with its check, or none.
-use Rattle.std.specs.Prelude.{ℕ, Bool, true, not, ◌&&◌, List, eqb, length, if◌then◌else◌}
+use Rattle.std.specs.Prelude.{ℕ, Bool, true, not, ◌&&◌, List, eqb, length, ⊤, Option, Some, None, Result, Ok, Err, if◌then◌else◌}
 use Rattle.processor.specs.Controls.{flags_in_bounds}
 use Rattle.processor.specs.Offsets.{vtpr}
 use Rattle.processor.specs.declared.controls.Record.{Record}
 use Rattle.events.specs.Events.{vector_in_bounds, in_bounds, allowed}
 use Rattle.events.specs.declared.answer.Refusal.{Refusal}
-use Rattle.events.specs.declared.answer.Refusal.TheVariants.{None, By}
+use Rattle.events.specs.declared.answer.Refusal.TheVariants.{PageLength, DescriptorLength, Bounds, Mode, EntryCheck}
 use Rattle.events.specs.declared.event.Event.{Event}
 use Rattle.events.specs.declared.event.Event.TheVariants.{Entry, Request, MemoryRead, MemoryWrite, ToCr8, FromCr8, Rdmsr, Wrmsr, Boundary}
 use Rattle.page.specs.Page.{byte_at}
-use Rattle.rules.specs.EntryChecks.{failing_check}
+use Rattle.rules.specs.EntryChecks.{failing_check, numbered}
 use Rattle.descriptor.specs.Descriptor.{descriptor_fits}
 use Rattle.meaning.specs.Input.{Input, given, external, leaves}
 
@@ -42,29 +42,33 @@ mode_fits r leaves = r.guest
 abbrev pub event_check : List ℕ → Event → ℕ
 event_check p (Entry controls) = failing_check controls (byte_at p vtpr)
 event_check p (Request vector) = 0
-event_check p (MemoryRead offset size fetch already) = 0
-event_check p (MemoryWrite offset size fetch already value) = 0
+event_check p (MemoryRead access) = 0
+event_check p (MemoryWrite access value) = 0
 event_check p (ToCr8 value register) = 0
 event_check p (FromCr8 register) = 0
 event_check p (Rdmsr index) = 0
 event_check p (Wrmsr index value) = 0
-event_check p (Boundary interrupts sti movSs activity) = 0
+event_check p (Boundary at) = 0
 
 abbrev pub check_of : List ℕ → Input → ℕ
 check_of p (given e) = event_check p e
 check_of p (external d vector) = 0
 check_of p leaves = 0
 
+-- a check that fails is the refusal by its number
+abbrev pub check_passed : Option ℕ → Result ⊤ Refusal
+check_passed None = Ok tt
+check_passed (Some check) = Err (EntryCheck check)
+
 -- Tested in the order 1, 5, 2, 3, 4, and given in no other case: the refusal of the first test that does not pass.
-abbrev pub first_refusal : Bool → Bool → Bool → Bool → ℕ → Refusal
+abbrev pub first_refusal : Bool → Bool → Bool → Bool → Option ℕ → Result ⊤ Refusal
 first_refusal page lent fields mode check =
-    if not page then By 1 0
-    else if not lent then By 5 0
-    else if not fields then By 2 0
-    else if not mode then By 3 0
-    else if not (eqb check 0) then By 4 check
-    else None
+    if not page then Err PageLength
+    else if not lent then Err DescriptorLength
+    else if not fields then Err Bounds
+    else if not mode then Err Mode
+    else check_passed check
 
 -- which refusal an input gets, by the five tests
-unfoldable pub refusal_of : List ℕ → Record → Input → Refusal
-refusal_of p r i = first_refusal (page_fits p i) (lent_fits i) (fields_fit r i) (mode_fits r i) (check_of p i)
+unfoldable pub refusal_of : List ℕ → Record → Input → Result ⊤ Refusal
+refusal_of p r i = first_refusal (page_fits p i) (lent_fits i) (fields_fit r i) (mode_fits r i) (numbered (check_of p i))

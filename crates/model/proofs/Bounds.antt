@@ -9,14 +9,14 @@ use Rattle.processor.specs.Controls.{flags_in_bounds}
 use Rattle.processor.specs.declared.controls.Record.{Record}
 use Rattle.processor.proofs.Tests.{right}
 use Rattle.events.specs.Events.{event_in_bounds}
-use Rattle.events.specs.declared.answer.Refusal.TheVariants.{None}
+use Rattle.std.specs.Prelude.{Ok}
 use Rattle.events.specs.declared.event.Event.TheVariants.{Request}
 use Rattle.meaning.specs.Input.{given}
 use Rattle.meaning.specs.Refusals.{refusal_of}
 use Rattle.meaning.proofs.Refused.{passed}
 
 -- a requested vector that gets no refusal is a byte
-pub byte-vector : (p : List ℕ) (r : Record) (v : ℕ) → refusal_of p r (given (Request v)) ≡ None → v % 256 ≡ v
+pub byte-vector : (p : List ℕ) (r : Record) (v : ℕ) → refusal_of p r (given (Request v)) ≡ Ok tt → v % 256 ≡ v
 unfolding event_in_bounds
 byte-vector p r v q = small (ltb-true v 256 (right (flags_in_bounds r.controls) (ltb v 256) (passed p r (given (Request v)) q).fields))
   where

@@ -6,13 +6,15 @@ ghost use Rattle.meaning.specs.Step.{step as step_of};
 
 use crate::outcome::refused;
 use boundaries::{boundary, entry};
-use events::answer::{Outcome, Refusal};
+use events::answer::Outcome;
 use events::bounds::{
     ACTIVITIES, CR8_VALUES, REGISTERS, VECTORS, memory_read_in_bounds, memory_write_in_bounds,
     vector_in_bounds,
 };
 use handlers::{cr8, memory, msr};
 use page::bytes::byte_at;
+use processor::access::MemoryAccess;
+use processor::boundary::Between;
 use processor::controls::{Controls, Record};
 use processor::offsets::VTPR;
 use refusals::list::{guest_refusal, root_refusal};
@@ -28,57 +30,38 @@ pub fn entry(page: &mut [u8], record: Record, controls: Controls) -> Outcome
         failing_check(controls, byte_at(page, VTPR)),
     );
     match refusal {
-        Refusal::None => entry::entry(page, record, controls),
-        Refusal::By { number, check } => refused(record, number, check),
+        Ok(()) => entry::entry(page, record, controls),
+        Err(refusal) => refused(record, refusal),
     }
 }
 
 pub fn request(page: &mut [u8], record: Record, vector: u16) -> Outcome
     ensures { Leaves (step_of page.old «record» (given (Request vector))) result page.new }
 {
-    let refusal = root_refusal(page, record, vector_in_bounds(vector as u32), 0);
+    let refusal = root_refusal(page, record, vector_in_bounds(vector as u32), None);
     match refusal {
-        Refusal::None => entry::request(page, record, (vector % VECTORS) as u8),
-        Refusal::By { number, check } => refused(record, number, check),
+        Ok(()) => entry::request(page, record, (vector % VECTORS) as u8),
+        Err(refusal) => refused(record, refusal),
     }
 }
 
-pub fn memory_read(
-    page: &[u8],
-    record: Record,
-    offset: u16,
-    size: u8,
-    fetch: bool,
-    already: bool,
-) -> Outcome
-    ensures { Leaves (step_of page.now «record» (given (MemoryRead offset size fetch already))) result page.now }
+pub fn memory_read(page: &[u8], record: Record, access: MemoryAccess) -> Outcome
+    ensures { Leaves (step_of page.now «record» (given (MemoryRead access))) result page.now }
 {
-    let refusal = guest_refusal(page, record, memory_read_in_bounds(offset, size));
+    let refusal = guest_refusal(page, record, memory_read_in_bounds(access));
     match refusal {
-        Refusal::None => memory::memory_read(page, record, offset, size, fetch, already),
-        Refusal::By { number, check } => refused(record, number, check),
+        Ok(()) => memory::memory_read(page, record, access),
+        Err(refusal) => refused(record, refusal),
     }
 }
 
-pub fn memory_write(
-    page: &mut [u8],
-    record: Record,
-    offset: u16,
-    size: u8,
-    fetch: bool,
-    already: bool,
-    value: u64,
-) -> Outcome
-    ensures { Leaves (step_of page.old «record» (given (MemoryWrite offset size fetch already value))) result page.new }
+pub fn memory_write(page: &mut [u8], record: Record, access: MemoryAccess, value: u64) -> Outcome
+    ensures { Leaves (step_of page.old «record» (given (MemoryWrite access value))) result page.new }
 {
-    let refusal = guest_refusal(
-        page,
-        record,
-        memory_write_in_bounds(offset, size, fetch, value),
-    );
+    let refusal = guest_refusal(page, record, memory_write_in_bounds(access, value));
     match refusal {
-        Refusal::None => memory::memory_write(page, record, offset, size, fetch, already, value),
-        Refusal::By { number, check } => refused(record, number, check),
+        Ok(()) => memory::memory_write(page, record, access, value),
+        Err(refusal) => refused(record, refusal),
     }
 }
 
@@ -87,8 +70,8 @@ pub fn to_cr8(page: &mut [u8], record: Record, value: u8, register: u8) -> Outco
 {
     let refusal = guest_refusal(page, record, (value < CR8_VALUES) & (register < REGISTERS));
     match refusal {
-        Refusal::None => cr8::mov_to_cr8(page, record, value, register),
-        Refusal::By { number, check } => refused(record, number, check),
+        Ok(()) => cr8::mov_to_cr8(page, record, value, register),
+        Err(refusal) => refused(record, refusal),
     }
 }
 
@@ -97,8 +80,8 @@ pub fn from_cr8(page: &[u8], record: Record, register: u8) -> Outcome
 {
     let refusal = guest_refusal(page, record, register < REGISTERS);
     match refusal {
-        Refusal::None => cr8::mov_from_cr8(page, record, register),
-        Refusal::By { number, check } => refused(record, number, check),
+        Ok(()) => cr8::mov_from_cr8(page, record, register),
+        Err(refusal) => refused(record, refusal),
     }
 }
 
@@ -107,8 +90,8 @@ pub fn rdmsr(page: &[u8], record: Record, index: u32) -> Outcome
 {
     let refusal = guest_refusal(page, record, true);
     match refusal {
-        Refusal::None => msr::read_msr(page, record, index),
-        Refusal::By { number, check } => refused(record, number, check),
+        Ok(()) => msr::read_msr(page, record, index),
+        Err(refusal) => refused(record, refusal),
     }
 }
 
@@ -117,24 +100,17 @@ pub fn wrmsr(page: &mut [u8], record: Record, index: u32, value: u64) -> Outcome
 {
     let refusal = guest_refusal(page, record, true);
     match refusal {
-        Refusal::None => msr::write_msr(page, record, index, value),
-        Refusal::By { number, check } => refused(record, number, check),
+        Ok(()) => msr::write_msr(page, record, index, value),
+        Err(refusal) => refused(record, refusal),
     }
 }
 
-pub fn boundary(
-    page: &mut [u8],
-    record: Record,
-    interrupts: bool,
-    sti: bool,
-    mov_ss: bool,
-    activity: u8,
-) -> Outcome
-    ensures { Leaves (step_of page.old «record» (given (Boundary interrupts sti mov_ss activity))) result page.new }
+pub fn boundary(page: &mut [u8], record: Record, at: Between) -> Outcome
+    ensures { Leaves (step_of page.old «record» (given (Boundary at))) result page.new }
 {
-    let refusal = guest_refusal(page, record, activity < ACTIVITIES);
+    let refusal = guest_refusal(page, record, at.activity < ACTIVITIES);
     match refusal {
-        Refusal::None => boundary::boundary(page, record, interrupts, sti, mov_ss, activity),
-        Refusal::By { number, check } => refused(record, number, check),
+        Ok(()) => boundary::boundary(page, record, at),
+        Err(refusal) => refused(record, refusal),
     }
 }

@@ -7,7 +7,7 @@ ghost use Rattle.meaning.specs.Input.{given, external, leaves};
 ghost use Rattle.meaning.specs.Step.{step as step_of, descriptor_after};
 ghost use Rattle.std.specs.Prelude.{List, ℕ};
 
-use events::answer::{Outcome, Refusal};
+use events::answer::Outcome;
 use events::event::Event;
 use processor::controls::Record;
 
@@ -27,29 +27,13 @@ pub fn step(page: &mut [u8], record: Record, event: Event) -> Outcome
     match event {
         Event::Entry(controls) => kinds::entry(page, record, controls),
         Event::Request(vector) => kinds::request(page, record, vector),
-        Event::MemoryRead {
-            offset,
-            size,
-            fetch,
-            already,
-        } => kinds::memory_read(page, record, offset, size, fetch, already),
-        Event::MemoryWrite {
-            offset,
-            size,
-            fetch,
-            already,
-            value,
-        } => kinds::memory_write(page, record, offset, size, fetch, already, value),
+        Event::MemoryRead(access) => kinds::memory_read(page, record, access),
+        Event::MemoryWrite { access, value } => kinds::memory_write(page, record, access, value),
         Event::ToCr8 { value, register } => kinds::to_cr8(page, record, value, register),
         Event::FromCr8(register) => kinds::from_cr8(page, record, register),
         Event::Rdmsr(index) => kinds::rdmsr(page, record, index),
         Event::Wrmsr { index, value } => kinds::wrmsr(page, record, index, value),
-        Event::Boundary {
-            interrupts,
-            sti,
-            mov_ss,
-            activity,
-        } => kinds::boundary(page, record, interrupts, sti, mov_ss, activity),
+        Event::Boundary(at) => kinds::boundary(page, record, at),
     }
 }
 
@@ -64,8 +48,8 @@ pub fn external_interrupt(
 {
     let refusal = external_refusal_of(page, record, descriptor, vector);
     match refusal {
-        Refusal::None => posting::external_interrupt(page, record, descriptor, vector),
-        Refusal::By { number, check } => outcome::refused(record, number, check),
+        Ok(()) => posting::external_interrupt(page, record, descriptor, vector),
+        Err(refusal) => outcome::refused(record, refusal),
     }
 }
 
@@ -75,7 +59,7 @@ pub fn leave(record: Record) -> Outcome
 {
     let refusal = leave_refusal_of(record);
     match refusal {
-        Refusal::None => outcome::left(record),
-        Refusal::By { number, check } => outcome::refused(record, number, check),
+        Ok(()) => outcome::left(record),
+        Err(refusal) => outcome::refused(record, refusal),
     }
 }

@@ -1,16 +1,17 @@
 // What an input leaves that is refused, and a guest that leaves, on whatever page.
 ghost use Rattle.std.specs.Prelude.{ℕ, List};
+ghost use Rattle.events.specs.Answers.{refusal_number, refusal_check};
 ghost use Rattle.meaning.specs.Leave.{left as left_of};
 ghost use Rattle.meaning.specs.After.{Leaves, refused as refused_of};
 
-use events::answer::{Answer, Outcome};
+use events::answer::{Answer, Outcome, Refusal};
 use processor::controls::Record;
 
-pub fn refused(record: Record, number: u8, check: u8) -> Outcome
-    ensures { (p : List ℕ) → Leaves (refused_of number check p «record») result p }
+pub fn refused(record: Record, refusal: Refusal) -> Outcome
+    ensures { (p : List ℕ) → Leaves (refused_of (refusal_number refusal) (refusal_check refusal) p «record») result p }
 {
     Outcome {
-        answer: Answer::Refused { number, check },
+        answer: Answer::Refused(refusal),
         record,
     }
 }

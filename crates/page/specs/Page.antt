@@ -5,6 +5,10 @@ use Rattle.std.specs.Prelude.{ℕ, ◌+◌, ◌*◌, ◌<◌, ◌≡◌, List, l
 abbrev pub byte_at : List ℕ → ℕ → ℕ
 byte_at p at = get_or p at 0
 
+-- bytes that stand in the page from a place on, n of them, 0 past its end
+abbrev pub AreBytes : List ℕ → ℕ → ℕ → List ℕ → Type 0
+AreBytes p at n bytes = (i : ℕ) → i < n → byte_at bytes i ≡ byte_at p (at + i)
+
 -- two, four and eight bytes, the low byte first
 unfoldable pub half_at : List ℕ → ℕ → ℕ
 half_at p at = byte_at p at + 0x100 * byte_at p (at + 1)

@@ -1,9 +1,8 @@
 -- What a replay leaves of a lent buffer, and what it answers.
-use Rattle.std.specs.Prelude.{ℕ, ◌+◌, ◌*◌, ◌≤◌, ◌≡◌, Bool, true, List, ◌++◌, leb, length, drop, if◌then◌else◌}
+use Rattle.std.specs.Prelude.{ℕ, ◌+◌, ◌*◌, ◌≤◌, ◌≡◌, Bool, List, ◌++◌, Option, Some, None, IsSome, leb, length, drop, if◌then◌else◌}
 use Rattle.text.specs.Written.{Writes}
 use Rattle.recorded.specs.Replay.{replay_text, replayed}
-use Rattle.playback.specs.declared.Replayed.{Replayed}
-use Rattle.playback.specs.declared.play.Text.{Text}
+use Rattle.playback.specs.declared.Text.{Text}
 
 -- room for every trace: lines of at most 50 characters, and a last line of at most 11
 abbrev pub room_for : ℕ → ℕ
@@ -15,13 +14,6 @@ pub record Prints (t : List ℕ) (limit : ℕ) (o : List ℕ) (r : Text) (o' : L
   pub count : r.count ≡ length (replayed t limit)
   pub room : r.end ≤ room_for limit
 
--- the same, as the answer of a replay that fits
-pub record Wrote (t : List ℕ) (limit : ℕ) (o : List ℕ) (r : Replayed) (o' : List ℕ) : Type 0 where
-  pub fits : r.fits ≡ true
-  pub text : Writes o 0 (replay_text t limit) r.written o'
-  pub count : r.count ≡ length (replayed t limit)
-  pub room : r.written ≤ room_for limit
-
 -- The text fits the buffer.
 unfoldable pub text_fits : List ℕ → ℕ → List ℕ → Bool
 text_fits t limit o = leb (length (replay_text t limit)) (length o)
@@ -30,14 +22,12 @@ text_fits t limit o = leb (length (replay_text t limit)) (length o)
 unfoldable pub buffer_after : List ℕ → ℕ → List ℕ → List ℕ
 buffer_after t limit o = if text_fits t limit o then (replay_text t limit ++ drop (length (replay_text t limit)) o) else o
 
--- The answer says whether it fits, how many bytes are written, and how many records have a line among them. A buffer with room for
--- every trace fits.
-pub record Replays (t : List ℕ) (limit : ℕ) (o : List ℕ) (r : Replayed) (o' : List ℕ) : Type 0 where
-  pub fits : r.fits ≡ text_fits t limit o
-  pub written : r.written ≡ (if text_fits t limit o then length (replay_text t limit) else 0)
-  pub count : r.count ≡ (if text_fits t limit o then length (replayed t limit) else 0)
+-- The answer is where the text ends, which is how many bytes are written, and how many records have a line among them; none where it does
+-- not fit. A buffer with room for every trace fits.
+pub record Replays (t : List ℕ) (limit : ℕ) (o : List ℕ) (r : Option Text) (o' : List ℕ) : Type 0 where
+  pub told : r ≡ (if text_fits t limit o then Some (record { end = length (replay_text t limit); count = length (replayed t limit) }) else None)
   pub buffer : o' ≡ buffer_after t limit o
-  pub enough : room_for limit ≤ length o → r.fits ≡ true
+  pub enough : room_for limit ≤ length o → IsSome r
 
 -- the same over the C boundary: 1 where the text is written, 0 where the buffer is too short
 pub record GgReplays (t : List ℕ) (limit : ℕ) (o : List ℕ) (answer written : ℕ) (o' : List ℕ) : Type 0 where

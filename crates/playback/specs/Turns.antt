@@ -6,6 +6,7 @@ use Rattle.text.specs.Written.{written, Writes}
 use Rattle.recorded.specs.Session.{begin, answer_to, session_after}
 use Rattle.recorded.specs.Replay.{bodies, text_from}
 use Rattle.session.specs.Told.{Begins, session_of}
+use Rattle.playback.specs.declared.Text.{Text}
 use Rattle.playback.specs.declared.turns.Turn.{Turn}
 
 -- The stated number is not reached, the trace is not at its end, and its next record can be read.
@@ -44,6 +45,11 @@ pub record Turned (t p o : List ℕ) (u r : Turn) (p' o' : List ℕ) : Type 0 wh
   pub count : r.count ≡ u.count + 1
   pub text : Writes o u.at (line (u.count + 1) (answer_to (session_of p u.state) (body_at t u.place))) r.at o'
   pub short : r.at ≤ u.at + 50
+
+-- the last line written, after the last turn
+pub record Closes (t o : List ℕ) (u : Turn) (r : Text) (o' : List ℕ) : Type 0 where
+  pub text : Writes o u.at (last_of t u.left u.place u.count) r.end o'
+  pub count : r.count ≡ u.count
 
 -- what is still to be printed
 abbrev pub text_left : List ℕ → List ℕ → Turn → List ℕ

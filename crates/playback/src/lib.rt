@@ -1,20 +1,19 @@
 // The replay of a trace into a lent buffer.
 #![tactic(auto, unfolding(crate::specs::Replays::buffer_after, crate::specs::Replays::text_fits, crate::specs::Turns::goes_on, crate::specs::Turns::last_of, recorded::specs::Replay::is_trace))]
 
-ghost use Rattle.std.specs.Prelude.{◌≡◌, length};
+ghost use Rattle.std.specs.Prelude.{◌≡◌, leb, length};
 ghost use Rattle.recorded.specs.Replay.{replay_text};
-ghost use Rattle.playback.specs.Replays.{room_for, Wrote, Replays};
+ghost use Rattle.playback.specs.Replays.{room_for, Replays};
 
 use crate::play::printed;
 
 mod play;
 mod turns;
 
-// Whether the text fits the buffer; where it does, how many bytes are written, and how many records have a line among them.
+// Where a text ends, and how many records have a line in it.
 #[derive(Clone, Copy)]
-pub struct Replayed {
-    pub fits: bool,
-    pub written: u64,
+pub struct Text {
+    pub end: u64,
     pub count: u32,
 }
 
@@ -30,42 +29,21 @@ fn room_for(limit: u32) -> u64
     LONGEST_LINE * limit as u64 + LONGEST_LAST_LINE
 }
 
-// The text, written into a buffer that has room for it.
-fn wrote(trace: &[u8], limit: u32, out: &mut [u8]) -> Replayed
-    ensures { Wrote trace.now limit out.old result out.new }
-{
-    let text = printed(trace, limit, out);
-    Replayed {
-        fits: true,
-        written: text.end,
-        count: text.count,
-    }
-}
-
 // How long the text is.
 fn measured(trace: &[u8], limit: u32) -> u64
     ensures { result ≡ length (replay_text trace.now limit) }
 {
-    let mut none = [0u8; 1];
-    let text = printed(trace, limit, &mut none);
-    text.end
+    printed(trace, limit, &mut [0u8; 1]).end
 }
 
-// The text of a replay of at most so many records, at the start of the buffer; nothing of a buffer that is too short is changed. Only a
-// buffer without room for every trace has the text measured first.
-pub fn replay(trace: &[u8], limit: u32, out: &mut [u8]) -> Replayed
+// The text of a replay of at most so many records, at the start of the buffer, or none where the buffer is too short: then nothing of it is
+// changed. Only for a buffer without room for every trace the text is measured first.
+pub fn replay(trace: &[u8], limit: u32, out: &mut [u8]) -> Option<Text>
     ensures { Replays trace.now limit out.old result out.new }
 {
     let room = out.len() as u64;
-    if room_for(limit) <= room {
-        return wrote(trace, limit, out);
+    if room < room_for(limit) && room < measured(trace, limit) {
+        return None;
     }
-    if measured(trace, limit) <= room {
-        return wrote(trace, limit, out);
-    }
-    Replayed {
-        fits: false,
-        written: 0,
-        count: 0,
-    }
+    Some(printed(trace, limit, out))
 }

@@ -6,28 +6,22 @@ ghost use Rattle.recorded.specs.Replay.{is_trace};
 ghost use Rattle.playback.specs.Turns.{Ended};
 ghost use Rattle.playback.specs.Replays.{Prints};
 
-use crate::turns::{Turn, first_turn, goes_on, last_line, next_turn};
+use crate::Text;
+use crate::turns::Turn;
 use page::bytes::byte_at;
 use text::lines::bad_line;
 use trace::bodies::{size_fits, version_fits};
 use trace::fields::two_at;
 use trace::kinds::length_of_kind;
 
-// Where the text ends, and how many records have a line in it.
-#[derive(Clone, Copy)]
-pub struct Text {
-    pub end: u64,
-    pub count: u32,
-}
-
 // Turns as long as the replay goes on; the number of records left falls with each.
 fn turns(page: &mut [u8], trace: &[u8], limit: u32, out: &mut [u8]) -> Turn
     requires { length trace.now ≤ 61440 }
     ensures { Ended trace.now limit page.old out.old result page.new out.new }
 {
-    let mut turn = first_turn(limit);
-    while goes_on(trace, turn) {
-        turn = next_turn(page, trace, out, turn);
+    let mut turn = Turn::first(limit);
+    while turn.goes_on(trace) {
+        turn = turn.next(page, trace, out);
     }
     turn
 }
@@ -45,30 +39,25 @@ fn told(trace: &[u8], limit: u32, out: &mut [u8]) -> Text
     ensures { is_trace trace.now ≡ true → Prints trace.now limit out.old result out.new }
 {
     if !first_fits(trace) {
-        return Text {
-            end: last_line(trace, out, 0, limit, 1, 0),
-            count: 0,
-        };
+        return Turn::first(limit).last_line(trace, out);
     }
     let mut page = [0u8; 4096];
     let last = turns(&mut page, trace, limit, out);
-    Text {
-        end: last_line(trace, out, last.at, last.left, last.place, last.count),
-        count: last.count,
-    }
+    last.last_line(trace, out)
+}
+
+// A right version byte, and no more bytes than the longest trace.
+fn is_trace(trace: &[u8]) -> bool
+    ensures { result ≡ is_trace trace.now }
+{
+    version_fits(trace) && size_fits(trace)
 }
 
 // The text, written as far as the buffer goes; only "bad 0" of what is no trace.
 pub fn printed(trace: &[u8], limit: u32, out: &mut [u8]) -> Text
     ensures { Prints trace.now limit out.old result out.new }
 {
-    if !version_fits(trace) {
-        return Text {
-            end: bad_line(out, 0, 0),
-            count: 0,
-        };
-    }
-    if !size_fits(trace) {
+    if !is_trace(trace) {
         return Text {
             end: bad_line(out, 0, 0),
             count: 0,

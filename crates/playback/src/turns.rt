@@ -1,8 +1,8 @@
 // One turn of a replay: a record read, carried out, and its line written.
 ghost use Rattle.std.specs.Prelude.{◌≡◌, ◌<◌};
-ghost use Rattle.playback.specs.Turns.{goes_on, last_of, Starts, Ready, Turned};
-ghost use Rattle.text.specs.Written.{Writes};
+ghost use Rattle.playback.specs.Turns.{goes_on, Starts, Ready, Turned, Closes};
 
+use crate::Text;
 use reader::{body_from, readable_from};
 use session::{State, begin, carried_out};
 use text::lines::{bad_line, done_line, line};
@@ -17,61 +17,58 @@ pub struct Turn {
     pub at: u32,
 }
 
-// Before the first record.
-pub fn first_turn(limit: u32) -> Turn
-    ensures { Starts limit result }
-{
-    Turn {
-        state: begin(),
-        left: limit,
-        place: 1,
-        count: 0,
-        at: 0,
+impl Turn {
+    // Before the first record.
+    pub fn first(limit: u32) -> Turn
+        ensures { Starts limit result }
+    {
+        Turn {
+            state: begin(),
+            left: limit,
+            place: 1,
+            count: 0,
+            at: 0,
+        }
     }
-}
 
-// The stated number is not reached, the trace is not at its end, and its next record can be read.
-pub fn goes_on(trace: &[u8], turn: Turn) -> bool
-    ensures { result ≡ goes_on trace.now turn }
-{
-    if turn.left == 0 {
-        return false;
+    // The stated number is not reached, the trace is not at its end, and its next record can be read.
+    pub fn goes_on(self, trace: &[u8]) -> bool
+        ensures { result ≡ goes_on trace.now self }
+    {
+        self.left != 0 && self.place < trace.len() && readable_from(trace, self.place)
     }
-    if trace.len() <= turn.place {
-        return false;
-    }
-    readable_from(trace, turn.place)
-}
 
-// The next record is carried out, and its line written.
-pub fn next_turn(page: &mut [u8], trace: &[u8], out: &mut [u8], turn: Turn) -> Turn
-    requires { Ready trace.now turn }
-    ensures { Turned trace.now page.old out.old turn result page.new out.new }
-{
-    let body = body_from(trace, turn.place);
-    let told = carried_out(page, turn.state, body);
-    let state = told.state;
-    let count = turn.count + 1;
-    let end = line(out, turn.at, count, told.numbers);
-    Turn {
-        state,
-        left: turn.left - 1,
-        place: turn.place + 2 + body.len(),
-        count,
-        at: end as u32,
+    // The next record is carried out, and its line written.
+    pub fn next(self, page: &mut [u8], trace: &[u8], out: &mut [u8]) -> Turn
+        requires { Ready trace.now self }
+        ensures { Turned trace.now page.old out.old self result page.new out.new }
+    {
+        let body = body_from(trace, self.place);
+        let told = carried_out(page, self.state, body);
+        let count = self.count + 1;
+        let end = line(out, self.at, count, told.numbers);
+        Turn {
+            state: told.state,
+            left: self.left - 1,
+            place: self.place + 2 + body.len(),
+            count,
+            at: end as u32,
+        }
     }
-}
 
-// The last line: "done", or "bad" where a record is left that can't be read.
-pub fn last_line(trace: &[u8], out: &mut [u8], at: u32, left: u32, place: usize, count: u32) -> u64
-    requires { count < 100000 }
-    ensures { Writes out.old at (last_of trace.now left place count) result out.new }
-{
-    if left == 0 {
-        return done_line(out, at, count);
+    // The last line: "done", or "bad" where a record is left that can't be read.
+    pub fn last_line(self, trace: &[u8], out: &mut [u8]) -> Text
+        requires { self.count < 100000 }
+        ensures { Closes trace.now out.old self result out.new }
+    {
+        let end = if self.left == 0 || trace.len() <= self.place {
+            done_line(out, self.at, self.count)
+        } else {
+            bad_line(out, self.at, self.count + 1)
+        };
+        Text {
+            end,
+            count: self.count,
+        }
     }
-    if trace.len() <= place {
-        return done_line(out, at, count);
-    }
-    bad_line(out, at, count + 1)
 }

@@ -3,6 +3,7 @@ ghost use Rattle.std.specs.Prelude.{◌≡◌};
 ghost use Rattle.processor.specs.Logic.{larger};
 ghost use Rattle.priorities.specs.Priorities.{class, low_cleared, ppr, below_threshold, evaluated, open_boundary};
 
+use processor::boundary::Between;
 use processor::controls::{Controls, INTERRUPT_WINDOW_EXITING};
 
 // A vector's class.
@@ -47,15 +48,12 @@ pub fn evaluates(c: Controls, rvi: u8, vppr: u8) -> bool
 pub fn larger_of(rvi: u8, vector: u8) -> u8
     ensures { result ≡ larger rvi vector }
 {
-    if rvi < vector {
-        return vector;
-    }
-    rvi
+    rvi.max(vector)
 }
 
 // The boundary is open.
-pub fn open_boundary(interrupts: bool, sti: bool, mov_ss: bool, activity: u8) -> bool
-    ensures { result ≡ open_boundary interrupts sti mov_ss activity }
+pub fn open_boundary(at: Between) -> bool
+    ensures { result ≡ open_boundary at.interrupts at.sti at.mov_ss at.activity }
 {
-    interrupts & !sti & !mov_ss & (activity < 2)
+    at.interrupts & !at.sti & !at.mov_ss & (at.activity < 2)
 }

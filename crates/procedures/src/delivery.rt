@@ -5,8 +5,8 @@ ghost use Rattle.processor.specs.Offsets.{virr};
 ghost use Rattle.registers.specs.Vectors.{highest};
 
 use processor::controls::Record;
-use registers::found::NONE_COUNTS_AS;
-use registers::vectors::highest_request;
+use processor::offsets::VIRR;
+use registers::vectors::{NONE_COUNTS_AS, highest_or};
 
 // RVI is in service on the page: SVI becomes RVI, RVI the highest request that is left.
 pub fn delivered_record(page: &[u8], record: Record) -> Record
@@ -14,7 +14,7 @@ pub fn delivered_record(page: &[u8], record: Record) -> Record
 {
     let mut next = record;
     next.svi = record.rvi;
-    next.rvi = highest_request(page).or(NONE_COUNTS_AS);
+    next.rvi = highest_or(page, VIRR, NONE_COUNTS_AS);
     next.recognised = false;
     next
 }

@@ -11,8 +11,7 @@ use page::bytes::byte_at;
 use priorities::procedures::{below_threshold, evaluates, larger_of, ppr_of};
 use processor::controls::{Record, VIRTUAL_DELIVERY};
 use processor::offsets::{VIRR, VISR, VPPR, VTPR};
-use registers::found::NONE_COUNTS_AS;
-use registers::vectors::highest_service;
+use registers::vectors::{NONE_COUNTS_AS, highest_or};
 use setting::put_vector;
 use stores::bytes::set_word;
 
@@ -59,7 +58,7 @@ pub fn retired(page: &mut [u8], old: u8) -> u8
     ensures { (page.new ≡ clear_vector page.old visr old) × (result ≡ highest page.new visr) }
 {
     put_vector(page, VISR, old, false);
-    highest_service(page).or(NONE_COUNTS_AS)
+    highest_or(page, VISR, NONE_COUNTS_AS)
 }
 
 // EOI virtualization from there on: PPR virtualization, then exit 45 by the old SVI, or evaluation.

@@ -1,4 +1,5 @@
 pub mod Logic
 pub mod Controls
 pub mod Offsets
+pub mod Access
 pub mod Rows

@@ -1,4 +1,14 @@
-// What a guest's access to memory or to CR8 comes to.
+// A guest's access: what one to memory is, and what one to memory or to CR8 comes to.
+
+// Where on the page, how many bytes, whether it fetches, and whether it is virtualised already.
+#[derive(Clone, Copy)]
+pub struct MemoryAccess {
+    pub offset: u16,
+    pub size: u8,
+    pub fetch: bool,
+    pub already: bool,
+}
+
 #[derive(Clone, Copy)]
 pub enum Access {
     Passthrough,

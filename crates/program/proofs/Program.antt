@@ -5,6 +5,7 @@ use Prim.Native.Nat.{ℕ, ◌≤◌, ◌<◌}
 use mathlib.Core.Path.{◌≡◌, refl, sym, ap, ◌∙◌}
 use mathlib.Core.Bool.{Bool, true, false, ◌&&◌}
 use mathlib.Core.List.{List}
+use Rattle.std.specs.Prelude.{Some}
 use lib.Dec.{leb}
 use lib.ListN.{length, take, length-take, length-append}
 use lib.Seq.{take_all, length-take-le}
@@ -13,15 +14,16 @@ use Rattle.trace.specs.Format.{version_fits}
 use Rattle.text.specs.Lines.{bad_line}
 use Rattle.recorded.specs.Replay.{is_trace, replay_text}
 use Rattle.recorded.specs.ProgramText.{program_limit, program_text}
-use Rattle.playback.specs.declared.Replayed.{Replayed}
-use Rattle.playback.specs.Replays.{room_for, text_fits, buffer_after, Replays}
+use Rattle.playback.specs.declared.Text.{Text}
+use Rattle.playback.specs.Replays.{text_fits, buffer_after, Replays}
+use Rattle.playback.proofs.Printing.{replay-told}
 use Rattle.program.specs.Program.{Prints, PrintsHeld}
 
-pub fits : {t o : List ℕ} {r : Replayed} {o' : List ℕ} → room_for program_limit ≤ length o → Replays t program_limit o r o' → Prints t o r.written o'
+pub fits : {t o : List ℕ} {r : Text} {o' : List ℕ} → Replays t program_limit o (Some r) o' → Prints t o r.end o'
 unfolding text_fits buffer_after program_text
-fits {t} {o} {r} {o'} h w =
-    let fit : leb (length (replay_text t program_limit)) (length o) ≡ true = sym w.fits ∙ w.enough h in
-    record { room = leb-true _ _ fit; written = simp fit at w.written; text = simp fit at w.buffer }
+fits {t} {o} {r} {o'} w =
+    let told = replay-told w in
+    record { room = leb-true _ _ told.0; written = told.1; text = simp told.0 at w.buffer }
 
 -- above 61,440 bytes there is only "bad 0"
 no-trace : (t : List ℕ) → 61440 < length t → is_trace t ≡ false

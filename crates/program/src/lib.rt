@@ -19,17 +19,12 @@ pub const ROOM: usize = 500_011;
 fn printed(trace: &[u8], out: &mut [u8; ROOM]) -> usize
     ensures { Prints trace.now out.old result out.new }
 {
-    let text = replay(trace, LIMIT, out);
-    text.written as usize
+    replay(trace, LIMIT, out).unwrap().end as usize
 }
 
 // The text of an input, of which the first bytes of an array are so many, or all of it.
 pub fn replay_program(input: &[u8; READ], length: usize, out: &mut [u8; ROOM]) -> usize
     ensures { PrintsHeld input.now length out.old result out.new }
 {
-    let bytes: &[u8] = input;
-    if length < READ {
-        return printed(&bytes[..length], out);
-    }
-    printed(bytes, out)
+    printed(&input[..length.min(READ)], out)
 }

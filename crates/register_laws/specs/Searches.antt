@@ -1,8 +1,7 @@
 -- Document 02, E4, as rows of one table: what the search finds on a page.
-use Rattle.std.specs.Prelude.{ℕ, Bool, true, false, ◌&&◌, List, [], ◌∷◌, ◌++◌, eqb, replicate}
+use Rattle.std.specs.Prelude.{ℕ, Bool, true, ◌&&◌, List, [], ◌∷◌, ◌++◌, Option, None, Some, eqb, replicate}
+use Rattle.std.specs.Option.{option_eq}
 use Rattle.processor.specs.Offsets.{virr, visr}
-use Rattle.registers.specs.declared.found.Found.{Found}
-use Rattle.registers.specs.declared.found.Found.TheVariants.{None, Vector}
 use Rattle.registers.specs.Vectors.{set_vector, highest_set}
 
 abbrev zero_page : List ℕ
@@ -12,29 +11,23 @@ zero_page = replicate 4096 0
 pub record Search : Type 0 where
   pub page : List ℕ
   pub base : ℕ
-  pub found : Found
-
-abbrev pub same_found : Found → Found → Bool
-same_found None None = true
-same_found None (Vector w) = false
-same_found (Vector v) None = false
-same_found (Vector v) (Vector w) = eqb v w
+  pub found : Option ℕ
 
 abbrev pub searches_hold : List Search → Bool
 searches_hold [] = true
-searches_hold (s ∷ rows) = same_found (highest_set s.page s.base) s.found && searches_hold rows
+searches_hold (s ∷ rows) = option_eq eqb (highest_set s.page s.base) s.found && searches_hold rows
 
-abbrev searched : List ℕ → ℕ → Found → Search
+abbrev searched : List ℕ → ℕ → Option ℕ → Search
 searched p base found = record { page = p; base = base; found = found }
 
 -- one bit of VIRR alone: that vector there, and none in VISR; and the same with the registers changed about
 abbrev bit_alone : ℕ → List Search
 bit_alone v =
-    searched (set_vector zero_page virr v) virr (Vector v) ∷ searched (set_vector zero_page virr v) visr None ∷
-    searched (set_vector zero_page visr v) visr (Vector v) ∷ searched (set_vector zero_page visr v) virr None ∷ []
+    searched (set_vector zero_page virr v) virr (Some v) ∷ searched (set_vector zero_page virr v) visr None ∷
+    searched (set_vector zero_page visr v) visr (Some v) ∷ searched (set_vector zero_page visr v) virr None ∷ []
 
 -- an empty register is none; bit 0 alone is vector 0; bit 255 alone; every bit
 abbrev pub search_rows : List Search
 search_rows =
     (searched zero_page virr None ∷ searched zero_page visr None ∷ []) ++ bit_alone 0 ++ bit_alone 255 ++
-    (searched (replicate 4096 0xff) virr (Vector 255) ∷ searched (replicate 4096 0xff) visr (Vector 255) ∷ [])
+    (searched (replicate 4096 0xff) virr (Some 255) ∷ searched (replicate 4096 0xff) visr (Some 255) ∷ [])

@@ -1,6 +1,7 @@
 -- The part of a page from a base on: a byte changed in it is that byte changed in the page, also where the part is too short to have
 -- it, and a register that it starts with is the page's at that base. Assumes nothing.
-use Prim.Native.Nat.{ℕ, ◌+◌, ◌-◌, ◌≤◌}
+use Rattle.std.specs.Prelude.{None}
+use Prim.Native.Nat.{ℕ, ◌+◌, ◌-◌, ◌≤◌, ◌<◌}
 use native.Mathlib.Nat.{le_refl, zero-add}
 use native.Mathlib.Omega.{arith}
 use mathlib.Core.Path.{◌≡◌, refl, sym, ◌∙◌, ap}
@@ -11,8 +12,9 @@ use lib.ListN.{length, get_or, set, drop, length-drop, drop_of_length-le}
 use lib.Seq.{set_out, take_all, get_or-drop}
 use borrow.Author.Tests.{ltb-true, ltb-false}
 use borrow.Rule.Slice.PartMut.{mid_of, put_mid, mid_len, put_same, set_mid_at}
-use Rattle.registers.specs.declared.found.Found.TheVariants.{None}
-use Rattle.registers.specs.Vectors.{is_set, highest_of, highest_set}
+use Rattle.page.specs.Page.{byte_at}
+use Rattle.registers.specs.Vectors.{is_set, highest_of, highest_set, word_bits}
+use Rattle.registers.proofs.Highest.{register-words}
 use Rattle.registers.proofs.Top.{found-same}
 
 module _ (p : List ℕ) (base : ℕ) where
@@ -47,6 +49,10 @@ module _ (p : List ℕ) (base : ℕ) where
   pub found_part : highest_set part 0 ≡ highest_set p base
   unfolding is_set
   found_part = found-same part p 0 base 256 (λ v l. simp (zero-add, part-byte))
+
+  -- word by word too
+  pub words-part : ((i : ℕ) → byte_at p i < 256) → highest_of (word_bits part 16) 256 ≡ highest_set p base
+  words-part bytes = register-words part (λ i. rw part-byte (bytes (base + i))) ∙ found_part
 
   -- past the page's end nothing is set
   pub found-past : length p ≤ base → None ≡ highest_set p base

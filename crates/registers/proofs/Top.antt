@@ -1,5 +1,5 @@
 -- The highest set place of a row of bits, below n: what it is, and what setting or clearing one bit does to it. Assumes nothing.
-use Rattle.std.specs.Prelude.{if◌then◌else◌}
+use Rattle.std.specs.Prelude.{Some, unwrap_or, if◌then◌else◌}
 use Prim.Native.Nat.{ℕ, zero, suc, ◌≤◌, ◌<◌}
 use native.Mathlib.Nat.{not-suc-le-zero, le_refl}
 use native.Mathlib.Omega.{arith}
@@ -9,8 +9,7 @@ use mathlib.Core.List.{List}
 use lib.Dec.{eqb, ltb}
 use borrow.Author.Tests.{eq-eqb, eqb-true, eqb-false, ltb-true, ltb-false}
 use Rattle.processor.specs.Logic.{larger}
-use Rattle.registers.specs.declared.found.Found.TheVariants.{Vector}
-use Rattle.registers.specs.Vectors.{is_set, put, highest_of, highest_below, or_else, highest}
+use Rattle.registers.specs.Vectors.{is_set, put, highest_of, highest_below, highest}
 
 -- the highest set place below n, 0 where there is none
 abbrev pub top : (ℕ → Bool) → ℕ → ℕ
@@ -18,12 +17,12 @@ top f zero = 0
 top f (suc v) = if f v then v else top f v
 
 -- the search on a page's register, where none counts as 0, is that of the register's bits
-pub highest-top : (p : List ℕ) (base n : ℕ) → or_else (highest_below p base n) 0 ≡ top (is_set p base) n
+pub highest-top : (p : List ℕ) (base n : ℕ) → unwrap_or (highest_below p base n) 0 ≡ top (is_set p base) n
 unfolding highest_of
 highest-top p base zero = refl
 highest-top p base (suc v) = by (is_set p base v) (highest-top p base v)
   where
-    by : (b : Bool) → or_else (highest_below p base v) 0 ≡ top (is_set p base) v → or_else (if b then Vector v else highest_below p base v) 0 ≡ (if b then v else top (is_set p base) v)
+    by : (b : Bool) → unwrap_or (highest_below p base v) 0 ≡ top (is_set p base) v → unwrap_or (if b then Some v else highest_below p base v) 0 ≡ (if b then v else top (is_set p base) v)
     by true e = refl
     by false e = e
 
@@ -32,15 +31,18 @@ pub top-ext : (f g : ℕ → Bool) (n : ℕ) → ((w : ℕ) → w < n → f w �
 top-ext f g zero h = refl
 top-ext f g (suc v) h = simp (h v (le_refl (suc v)), top-ext f g v (λ w l. h w (omega arith)))
 
--- registers that agree bit by bit have one search, wherever they lie, and one highest vector
-pub found-same : (p q : List ℕ) (a b n : ℕ) → ((w : ℕ) → w < n → is_set p a w ≡ is_set q b w) → highest_below p a n ≡ highest_below q b n
+-- rows that agree below n have one search; so have registers that agree bit by bit, wherever they lie, and one highest vector
+pub found-ext : (f g : ℕ → Bool) (n : ℕ) → ((w : ℕ) → w < n → f w ≡ g w) → highest_of f n ≡ highest_of g n
 unfolding highest_of
-found-same p q a b zero h = refl
-found-same p q a b (suc v) h = simp (h v (le_refl (suc v)), found-same p q a b v (λ w l. h w (omega arith)))
+found-ext f g zero h = refl
+found-ext f g (suc v) h = simp (h v (le_refl (suc v)), found-ext f g v (λ w l. h w (omega arith)))
+
+pub found-same : (p q : List ℕ) (a b n : ℕ) → ((w : ℕ) → w < n → is_set p a w ≡ is_set q b w) → highest_below p a n ≡ highest_below q b n
+found-same p q a b n h = found-ext (is_set p a) (is_set q b) n h
 
 pub highest-same : (p q : List ℕ) (a b : ℕ) → ((w : ℕ) → w < 256 → is_set p a w ≡ is_set q b w) → highest p a ≡ highest q b
 unfolding highest
-highest-same p q a b h = ap (λ f. or_else f 0) (found-same p q a b 256 h)
+highest-same p q a b h = ap (λ f. unwrap_or f 0) (found-same p q a b 256 h)
 
 pub top_below : (f : ℕ → Bool) (n : ℕ) → 0 < n → top f n < n
 top_below f zero h = absurd (not-suc-le-zero h)

@@ -1,10 +1,8 @@
 -- Document 01, "Registers on the page": the vectors of VIRR and VISR.
-use Rattle.std.specs.Prelude.{ℕ, zero, suc, ◌+◌, ◌-◌, ◌*◌, ◌/◌, ◌%◌, ◌^◌, ◌<◌, ◌≤◌, ◌≡◌, Bool, true, false, List, eqb, if◌then◌else◌}
+use Rattle.std.specs.Prelude.{ℕ, zero, suc, ◌+◌, ◌-◌, ◌*◌, ◌/◌, ◌%◌, ◌^◌, ◌<◌, ◌≤◌, ◌≡◌, Bool, true, false, List, Option, None, Some, unwrap_or, eqb, if◌then◌else◌}
 use Rattle.processor.specs.Logic.{bit}
-use Rattle.page.specs.Page.{byte_at}
+use Rattle.page.specs.Page.{byte_at, word_at}
 use Rattle.stores.specs.Stores.{set_byte}
-use Rattle.registers.specs.declared.found.Found.{Found}
-use Rattle.registers.specs.declared.found.Found.TheVariants.{None, Vector}
 
 -- Vector v is bit (v mod 32) of the word at the register's base + 16 × floor(v/32): bit (v mod 8) of this byte from the base on
 abbrev pub vector_byte : ℕ → ℕ
@@ -34,43 +32,42 @@ abbrev pub put : (ℕ → Bool) → ℕ → Bool → ℕ → Bool
 put f v on w = if eqb v w then on else f w
 
 -- the highest set place below n of a row of bits, or none
-unfoldable pub highest_of : (ℕ → Bool) → ℕ → Found
+unfoldable pub highest_of : (ℕ → Bool) → ℕ → Option ℕ
 highest_of f zero = None
-highest_of f (suc v) = if f v then Vector v else highest_of f v
+highest_of f (suc v) = if f v then Some v else highest_of f v
 
 -- the highest set vector below n, or none
-abbrev pub highest_below : List ℕ → ℕ → ℕ → Found
+abbrev pub highest_below : List ℕ → ℕ → ℕ → Option ℕ
 highest_below p base n = highest_of (is_set p base) n
 
 -- the highest set vector of the register at the base, or none
-abbrev pub highest_set : List ℕ → ℕ → Found
+abbrev pub highest_set : List ℕ → ℕ → Option ℕ
 highest_set p base = highest_below p base 256
 
 -- a vector exactly where a bit below n is set, and then the highest: what the search promises, in words of the bits
-abbrev pub Finds : List ℕ → ℕ → ℕ → Found → Type 0
+abbrev pub Finds : List ℕ → ℕ → ℕ → Option ℕ → Type 0
 Finds p base n None = (w : ℕ) → w < n → is_set p base w ≡ false
-Finds p base n (Vector v) = (v < n) × (is_set p base v ≡ true) × ((w : ℕ) → w < n → is_set p base w ≡ true → w ≤ v)
-
--- the vector found, or a number in place of none
-abbrev pub or_else : Found → ℕ → ℕ
-or_else None none = none
-or_else (Vector v) none = v
+Finds p base n (Some v) = (v < n) × (is_set p base v ≡ true) × ((w : ℕ) → w < n → is_set p base w ≡ true → w ≤ v)
 
 -- The highest set vector of an empty register counts as 0.
 unfoldable pub highest : List ℕ → ℕ → ℕ
-highest p base = or_else (highest_set p base) 0
+highest p base = unwrap_or (highest_set p base) 0
 
--- ---- of the search alone: no definition or claim of another crate speaks of these
--- what its number says: none at 256, past every vector; else the vector
-abbrev pub found_at : ℕ → Found
-found_at place = if eqb place 256 then None else Vector place
+-- ---- of the search alone: no definition of another crate speaks of these
+-- a row of bits in words of 32, which stand so many bytes apart
+abbrev pub word_bits : List ℕ → ℕ → ℕ → Bool
+word_bits p step v = bit (word_at p (step * (v / 32))) (v % 32)
 
--- a number that says what is found in a row of 256 bits
-pub record Places (f : ℕ → Bool) (place : ℕ) : Type 0 where
-  pub within : place ≤ 256
-  pub found : found_at place ≡ highest_of f 256
-
--- what it asks of a word: its highest set bit below bit n, counted from 1; 0 where none is set
+-- a word's highest set bit below bit n, counted from 1; 0 where none is set
 unfoldable pub highest_bit : ℕ → ℕ → ℕ
 highest_bit word zero = 0
 highest_bit word (suc k) = if bit word k then suc k else highest_bit word k
+
+-- a place that is found, counted from 1; 0 where none is
+abbrev pub counted : Option ℕ → ℕ
+counted None = 0
+counted (Some place) = suc place
+
+-- what a number says is found: none at 256, past every vector; else the vector
+abbrev pub found_at : ℕ → Option ℕ
+found_at place = if eqb place 256 then None else Some place

@@ -1,68 +1,44 @@
 // The 256-bit registers of a page.
-ghost use Rattle.std.specs.Prelude.{◌≡◌, ◌≤◌};
-ghost use Rattle.processor.specs.Offsets.{virr, visr};
-ghost use Rattle.registers.specs.Vectors.{is_set, highest_bit, highest_set, found_at, Places};
+ghost use Rattle.std.specs.Prelude.{◌≡◌, unwrap_or};
+ghost use Rattle.registers.specs.Vectors.{counted, highest_bit, highest_of, highest_set, word_bits};
 
-use crate::found::Found;
 use page::bytes::word_at;
-use processor::offsets::{VIRR, VISR};
 
-// The highest set bit of a word, counted from 1: what its leading zeros leave of its 32 bits; 0 where none is set.
-pub fn highest_bit(word: u32) -> u32
-    ensures { result ≡ highest_bit word 32 }
+// The highest set vector of an empty register counts as 0.
+pub const NONE_COUNTS_AS: u8 = 0;
+
+// The bytes from one word of a register to the next.
+pub const REGISTER_STEP: u8 = 16;
+
+// The highest set bit of a word, or none.
+pub fn highest_bit(word: u32) -> Option<u32>
+    ensures { counted result ≡ highest_bit word 32 }
 {
-    if word == 0 {
-        return 0;
-    }
-    32 - u32::leading_zeros(word)
+    u32::checked_ilog2(word)
 }
 
-// The highest set vector of a register that starts where the slice does: its eight words from the top; 256 where none is set.
-fn highest_in(register: &[u8]) -> u32
-    ensures { Places (is_set register.now 0) result }
+// The highest set bit of eight words that stand so many bytes apart, or none: the words from the top.
+pub fn highest_in<const STEP: u8>(words: &[u8]) -> Option<u8>
+    ensures { result ≡ highest_of (word_bits words.now STEP) 256 }
 {
-    let mut left: u32 = 8;
-    while 0 < left {
-        let found = highest_bit(word_at(register, (16 * (left - 1)) as u16));
-        if 0 < found {
-            return 32 * (left - 1) + found - 1;
+    for word in (0..8u8).rev() {
+        if let Some(bit) = highest_bit(word_at(words, u16::from(STEP) * u16::from(word))) {
+            return Some(32 * word + bit as u8);
         }
-        left = left - 1;
     }
-    256
+    None
 }
 
-// The same of the page's register at an offset.
-fn highest_from(page: &[u8], at: usize) -> u32
-    ensures { Places (is_set page.now at) result }
+// The highest set vector of the page's register at the base, or none.
+pub fn highest_set(page: &[u8], base: u16) -> Option<u8>
+    ensures { result ≡ highest_set page.now base }
 {
-    if at <= page.len() {
-        return highest_in(&page[at..]);
-    }
-    256
+    highest_in::<REGISTER_STEP>(page.get(usize::from(base)..)?)
 }
 
-// What that number says: an empty register and bit 0 alone are told apart.
-fn found_at(place: u32) -> Found
-    requires { place ≤ 256 }
-    ensures { result ≡ found_at place }
+// The highest set vector of the page's register at the base, or a number in place of none.
+pub fn highest_or(page: &[u8], base: u16, none: u8) -> u8
+    ensures { result ≡ unwrap_or (highest_set page.now base) none }
 {
-    if place == 256 {
-        return Found::None;
-    }
-    Found::Vector(place as u8)
-}
-
-// The highest set vector of VIRR, or none.
-pub fn highest_request(page: &[u8]) -> Found
-    ensures { result ≡ highest_set page.now virr }
-{
-    found_at(highest_from(page, VIRR as usize))
-}
-
-// The highest set vector of VISR, or none.
-pub fn highest_service(page: &[u8]) -> Found
-    ensures { result ≡ highest_set page.now visr }
-{
-    found_at(highest_from(page, VISR as usize))
+    highest_set(page, base).unwrap_or(none)
 }

@@ -4,19 +4,12 @@
 ghost use Rattle.std.specs.Prelude.{◌<◌, ◌≤◌, length, take, IfOk};
 ghost use Rattle.std.specs.Io.KnownBytes.{Consumes, IsAtEnd};
 
-use playback::replay;
+use program::{READ, ROOM, replay_program};
 use std::io;
 use std::io::Read;
 
-// How many records a run takes, and the room for as many lines: 50 bytes for each, and 11 for the last.
-const LIMIT: u32 = 10_000;
-
-const ROOM: usize = 500_011;
-
-// One byte more than the longest trace, so that a longer one is seen to be longer.
-const READ: usize = 61_441;
-
-// Reads until the buffer is full or the input ends: how many bytes of the input now stand at the buffer's start.
+// Reads until the buffer is full or the input ends: how many bytes of the input now stand at the buffer's start. No method of std's does it in
+// a lent buffer: `read_exact` says no number where the input ends early, and `copy` not which bytes it writes.
 fn read_full<R: Read>(input: &mut R, buffer: &mut [u8]) -> io::Result<usize>
     ensures within { IfOk result (λ n. n ≤ length buffer.new) }
     ensures bytes { IfOk result (λ n. Consumes (R.remaining input.old) (R.remaining input.new) (take n buffer.new)) }
@@ -24,11 +17,10 @@ fn read_full<R: Read>(input: &mut R, buffer: &mut [u8]) -> io::Result<usize>
 {
     let mut done = 0;
     while done < buffer.len() {
-        let more = input.read(&mut buffer[done..])?;
-        if more == 0 {
-            return Ok(done);
+        match input.read(&mut buffer[done..])? {
+            0 => break,
+            more => done += more,
         }
-        done += more;
     }
     Ok(done)
 }
@@ -37,7 +29,6 @@ fn main(rt: HostRuntime) -> io::Result<()> {
     let mut trace = [0u8; READ];
     let length = read_full(&mut rt.reader(), &mut trace)?;
     let mut out = [0u8; ROOM];
-    let text = replay(&trace[..length], LIMIT, &mut out);
-    let written = text.written as usize;
+    let written = replay_program(&trace, length, &mut out);
     rt.write_all(&out[..written])
 }

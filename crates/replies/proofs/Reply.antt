@@ -14,13 +14,13 @@ use Rattle.layout.specs.RecordBytes.{controls_of, record_of}
 abbrev is_entry : Input → Bool
 is_entry (given (Entry controls)) = true
 is_entry (given (Request vector)) = false
-is_entry (given (MemoryRead offset size fetch already)) = false
-is_entry (given (MemoryWrite offset size fetch already value)) = false
+is_entry (given (MemoryRead access)) = false
+is_entry (given (MemoryWrite access value)) = false
 is_entry (given (ToCr8 value register)) = false
 is_entry (given (FromCr8 register)) = false
 is_entry (given (Rdmsr index)) = false
 is_entry (given (Wrmsr index value)) = false
-is_entry (given (Boundary interrupts sti movSs activity)) = false
+is_entry (given (Boundary at)) = false
 is_entry (external d vector) = false
 is_entry leaves = false
 

@@ -1,7 +1,7 @@
 // One event by its kind: refusal 2 of what cannot be read, or the model's function for the kind on the fields that it names.
 ghost use Rattle.std.specs.Prelude.{◌≡◌, true, ltb};
 ghost use Rattle.events.specs.declared.event.Event.TheVariants.{Entry, FromCr8, Rdmsr};
-ghost use Rattle.layout.specs.EventBytes.{flags_of, detail_of, number_of, value_of, memory_readable, memory_read_of, memory_write_of, to_cr8_of, wrmsr_of, boundary_of, request_of, event_readable, event_of};
+ghost use Rattle.layout.specs.EventBytes.{flags_of, detail_of, number_of, value_of, memory_readable, access_of, memory_read_of, memory_write_of, to_cr8_of, wrmsr_of, boundary_of, request_of, event_readable, event_of};
 ghost use Rattle.layout.specs.RecordBytes.{controls_of, reserved_zero};
 ghost use Rattle.replies.specs.Replies.{Replies, kind_reply};
 
@@ -15,6 +15,8 @@ use model::kinds::{
     boundary, entry, from_cr8, memory_read, memory_write, rdmsr, request, to_cr8, wrmsr,
 };
 use page::bytes::{byte_at, long_within, word_within};
+use processor::access::MemoryAccess;
+use processor::boundary::Between;
 
 // An entry.
 fn entry_reply(page: &mut [u8], record: &mut [u8; 48], event: &[u8]) -> Numbers
@@ -27,40 +29,41 @@ fn entry_reply(page: &mut [u8], record: &mut [u8; 48], event: &[u8]) -> Numbers
     told(record, outcome)
 }
 
-// A memory read: flags bit 0 is the fetch flag, bit 1 the already-virtualised one.
+// The access of a memory read or write: flags bit 0 is the fetch flag, bit 1 the already-virtualised one.
+fn access_of(event: &[u8]) -> MemoryAccess
+    ensures { result ≡ access_of event.now }
+{
+    let flags = byte_at(event, FLAGS);
+    MemoryAccess {
+        offset: (word_within(event, NUMBER) % 0x1_0000) as u16,
+        size: byte_at(event, SIZE),
+        fetch: is_set(flags, 0),
+        already: is_set(flags, 1),
+    }
+}
+
+// A memory read.
 fn memory_read_reply(page: &mut [u8], record: &mut [u8; 48], event: &[u8]) -> Numbers
     ensures { Replies (kind_reply (memory_readable event.now) (memory_read_of event.now) page.old «record».old) result.answer result.first result.second «record».new page.new }
 {
     if !memory_readable(event) {
         return refused(2);
     }
-    let flags = byte_at(event, FLAGS);
-    let outcome = memory_read(
-        page,
-        record_of(record),
-        (word_within(event, NUMBER) % 0x1_0000) as u16,
-        byte_at(event, SIZE),
-        is_set(flags, 0),
-        is_set(flags, 1),
-    );
+    let outcome = memory_read(page, record_of(record), access_of(event));
     told_status(record, outcome)
 }
 
-// A memory write, with the same flags.
+// A memory write.
 fn memory_write_reply(page: &mut [u8], record: &mut [u8; 48], event: &[u8]) -> Numbers
     ensures { Replies (kind_reply (memory_readable event.now) (memory_write_of event.now) page.old «record».old) result.answer result.first result.second «record».new page.new }
 {
     if !memory_readable(event) {
         return refused(2);
     }
-    let flags = byte_at(event, FLAGS);
     let outcome = memory_write(
         page,
         record_of(record),
-        (word_within(event, NUMBER) % 0x1_0000) as u16,
-        byte_at(event, SIZE),
-        is_set(flags, 0),
-        is_set(flags, 1),
+        access_of(event),
         long_within(event, VALUE),
     );
     told_status(record, outcome)
@@ -120,14 +123,13 @@ fn boundary_reply(page: &mut [u8], record: &mut [u8; 48], event: &[u8]) -> Numbe
     if 8 <= flags {
         return refused(2);
     }
-    let outcome = boundary(
-        page,
-        record_of(record),
-        is_set(flags, 0),
-        is_set(flags, 1),
-        is_set(flags, 2),
-        byte_at(event, DETAIL),
-    );
+    let at = Between {
+        interrupts: is_set(flags, 0),
+        sti: is_set(flags, 1),
+        mov_ss: is_set(flags, 2),
+        activity: byte_at(event, DETAIL),
+    };
+    let outcome = boundary(page, record_of(record), at);
     told_status(record, outcome)
 }
 

@@ -4,7 +4,7 @@ ghost use Rattle.events.specs.Answers.{numbers};
 ghost use Rattle.layout.specs.RecordBytes.{controls_of};
 ghost use Rattle.replies.specs.Replies.{Told};
 
-use events::answer::{Numbers, Outcome, numbered, numbers_of};
+use events::answer::{Numbers, Outcome, numbered};
 use keeping::{keep, keep_status};
 
 pub fn refused(number: u64) -> Numbers
@@ -19,7 +19,7 @@ pub fn told(record: &mut [u8; 48], outcome: Outcome) -> Numbers
 {
     let answer = outcome.answer;
     let state = outcome.record;
-    let numbers = numbers_of(answer);
+    let numbers = Numbers::from(answer);
     keep(record, numbers.answer, state);
     numbers
 }
@@ -31,7 +31,7 @@ pub fn told_status(record: &mut [u8; 48], outcome: Outcome) -> Numbers
 {
     let answer = outcome.answer;
     let state = outcome.record;
-    let numbers = numbers_of(answer);
+    let numbers = Numbers::from(answer);
     keep_status(record, numbers.answer, state);
     numbers
 }

@@ -1,5 +1,6 @@
 -- Document 01, "Boundary", as rows.
 use Rattle.std.specs.Prelude.{ℕ, Bool, true, false, not, List, [], ◌∷◌, ◌++◌}
+use Rattle.processor.specs.Access.{between}
 use Rattle.processor.specs.Rows.{Word, word}
 use Rattle.events.specs.declared.event.Event.{Event}
 use Rattle.events.specs.declared.event.Event.TheVariants.{Boundary}
@@ -18,17 +19,17 @@ closed flags recognised e = keeps page (guest 0x71 0x31 recognised (busy flags 0
 abbrev closed_rows : List Row
 closed_rows =
     -- IF off; blocking by STI; blocking by MOV SS; activity 2 and 3; each with a window to exit by too
-    closed 0x33 true (Boundary false false false 0) ∷ closed 0x33 true (Boundary true true false 0) ∷ closed 0x33 true (Boundary true false true 0) ∷
-    closed 0x33 true (Boundary true false false 2) ∷ closed 0x33 true (Boundary true false false 3) ∷
-    closed 0x73 true (Boundary false false false 0) ∷ closed 0x73 true (Boundary true true false 0) ∷ closed 0x73 true (Boundary true false true 1) ∷
-    closed 0x73 true (Boundary true false false 2) ∷ closed 0x73 true (Boundary true false false 3) ∷
+    closed 0x33 true (Boundary (between false false false 0)) ∷ closed 0x33 true (Boundary (between true true false 0)) ∷ closed 0x33 true (Boundary (between true false true 0)) ∷
+    closed 0x33 true (Boundary (between true false false 2)) ∷ closed 0x33 true (Boundary (between true false false 3)) ∷
+    closed 0x73 true (Boundary (between false false false 0)) ∷ closed 0x73 true (Boundary (between true true false 0)) ∷ closed 0x73 true (Boundary (between true false true 1)) ∷
+    closed 0x73 true (Boundary (between true false false 2)) ∷ closed 0x73 true (Boundary (between true false false 3)) ∷
     -- open, nothing recognised
-    closed 0x33 false (Boundary true false false 0) ∷ closed 0x33 false (Boundary true false false 1) ∷ []
+    closed 0x33 false (Boundary (between true false false 0)) ∷ closed 0x33 false (Boundary (between true false false 1)) ∷ []
 
 -- Open with control 6: exit 7, recognised or not.
 abbrev window : ℕ → Bool → ℕ → Row
 window flags recognised activity =
-    of_event page (guest 0x71 0x31 recognised (busy flags 0)) (Boundary true false false activity) (exit 7 0) (root 0x71 0x31 false (busy flags 0)) []
+    of_event page (guest 0x71 0x31 recognised (busy flags 0)) (Boundary (between true false false activity)) (exit 7 0) (root 0x71 0x31 false (busy flags 0)) []
 
 abbrev window_rows : List Row
 window_rows = window 0x73 true 0 ∷ window 0x73 false 0 ∷ window 0x40 true 1 ∷ []
@@ -37,7 +38,7 @@ window_rows = window 0x73 true 0 ∷ window 0x73 false 0 ∷ window 0x40 true 1 
 -- off; delivered v
 abbrev deliver : List ℕ → ℕ → ℕ → ℕ → ℕ → ℕ → List Word → Row
 deliver p flags activity rvi svi end ws =
-    of_event p (guest rvi svi true (busy flags 0)) (Boundary true false false activity) (delivered rvi) (guest end rvi false (busy flags 0)) ws
+    of_event p (guest rvi svi true (busy flags 0)) (Boundary (between true false false activity)) (delivered rvi) (guest end rvi false (busy flags 0)) ws
 
 abbrev delivery_rows : List Row
 delivery_rows =

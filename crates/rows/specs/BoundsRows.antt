@@ -1,11 +1,13 @@
 -- Document 01, "Events" and "What comes back", as rows: the bounds of every field, the mode that an event belongs to, and the number and
 -- values of each answer.
 use Rattle.std.specs.Prelude.{ℕ, Bool, true, false, not, ◌&&◌, List, [], ◌∷◌, ◌++◌}
+use Rattle.processor.specs.Access.{access, between}
 use Rattle.processor.specs.Rows.{at_each, at_none, notified, flagged}
 use Rattle.processor.specs.declared.controls.Controls.{Controls}
 use Rattle.processor.specs.declared.controls.Record.{Record}
 use Rattle.events.specs.declared.event.Event.{Event}
 use Rattle.events.specs.declared.event.Event.TheVariants.{Entry, Request, MemoryRead, MemoryWrite, ToCr8, FromCr8, Rdmsr, Wrmsr, Boundary}
+use Rattle.events.specs.declared.answer.Refusal.TheVariants.{PageLength, DescriptorLength, Bounds, Mode, EntryCheck}
 use Rattle.events.specs.declared.answer.Answer.TheVariants.{Refused, Redirected, Passthrough, Fault, Exit, Delivered, Quiet}
 use Rattle.events.specs.Answers.{numbers_of}
 use Rattle.rows.specs.RowBench.{tells}
@@ -38,17 +40,17 @@ event_rows =
     event_in_bounds (Entry (controls_to 0x7ff)) ∷ not (event_in_bounds (Entry (controls_to 0x800))) ∷
     event_in_bounds (Request 255) ∷ not (event_in_bounds (Request 256)) ∷
     -- both flags of a read may be on
-    event_in_bounds (MemoryRead 4095 8 true true) ∷ not (event_in_bounds (MemoryRead 4096 1 false false)) ∷
-    not (event_in_bounds (MemoryRead 0 3 false false)) ∷
+    event_in_bounds (MemoryRead (access 4095 8 true true)) ∷ not (event_in_bounds (MemoryRead (access 4096 1 false false))) ∷
+    not (event_in_bounds (MemoryRead (access 0 3 false false))) ∷
     -- of a write, the fetch flag must be off
-    event_in_bounds (MemoryWrite 4095 2 false true 0xffff) ∷ not (event_in_bounds (MemoryWrite 4095 2 true false 0xffff)) ∷
-    not (event_in_bounds (MemoryWrite 4096 2 false false 0)) ∷ not (event_in_bounds (MemoryWrite 0 2 false false 0x1_0000)) ∷
-    not (event_in_bounds (MemoryWrite 0 3 false false 0)) ∷
+    event_in_bounds (MemoryWrite (access 4095 2 false true) 0xffff) ∷ not (event_in_bounds (MemoryWrite (access 4095 2 true false) 0xffff)) ∷
+    not (event_in_bounds (MemoryWrite (access 4096 2 false false) 0)) ∷ not (event_in_bounds (MemoryWrite (access 0 2 false false) 0x1_0000)) ∷
+    not (event_in_bounds (MemoryWrite (access 0 3 false false) 0)) ∷
     event_in_bounds (ToCr8 15 15) ∷ not (event_in_bounds (ToCr8 16 0)) ∷ not (event_in_bounds (ToCr8 0 16)) ∷
     event_in_bounds (FromCr8 15) ∷ not (event_in_bounds (FromCr8 16)) ∷
     -- every 32-bit index and every 64-bit value
     event_in_bounds (Rdmsr 0xffff_ffff) ∷ event_in_bounds (Wrmsr 0xffff_ffff 0xffff_ffff_ffff_ffff) ∷
-    event_in_bounds (Boundary true true true 3) ∷ not (event_in_bounds (Boundary false false false 4)) ∷ []
+    event_in_bounds (Boundary (between true true true 3)) ∷ not (event_in_bounds (Boundary (between false false false 4))) ∷ []
 
 abbrev held : Bool → ℕ → Record
 held guest flags = record { guest = guest; rvi = 0; svi = 0; recognised = false; controls = flagged flags }
@@ -69,14 +71,16 @@ guest_alone e = not (root_only e) && allowed (held true 0) e && not (allowed (he
 -- Root only: entry, request. Guest only: every other event.
 abbrev pub mode_rows : List Bool
 mode_rows =
-    root_alone (Entry (flagged 0)) ∷ root_alone (Request 0x60) ∷ guest_alone (MemoryRead 0x080 1 false false) ∷
-    guest_alone (MemoryWrite 0x080 1 false false 0) ∷ guest_alone (ToCr8 0 0) ∷ guest_alone (FromCr8 0) ∷ guest_alone (Rdmsr 0x808) ∷
-    guest_alone (Wrmsr 0x808 0) ∷ guest_alone (Boundary true false false 0) ∷ []
+    root_alone (Entry (flagged 0)) ∷ root_alone (Request 0x60) ∷ guest_alone (MemoryRead (access 0x080 1 false false)) ∷
+    guest_alone (MemoryWrite (access 0x080 1 false false) 0) ∷ guest_alone (ToCr8 0 0) ∷ guest_alone (FromCr8 0) ∷ guest_alone (Rdmsr 0x808) ∷
+    guest_alone (Wrmsr 0x808 0) ∷ guest_alone (Boundary (between true false false 0)) ∷ []
 
 -- each answer has its number and its values; numbers not named are 0
 abbrev pub answer_rows : List Bool
 answer_rows =
-    tells (numbers_of (Refused 4 6)) 0 4 6 ∷ tells (numbers_of (Redirected 0x5c)) 1 0x5c 0 ∷ tells (numbers_of Passthrough) 2 0 0 ∷ tells (numbers_of Fault) 3 0 0 ∷
+    tells (numbers_of (Refused PageLength)) 0 1 0 ∷ tells (numbers_of (Refused DescriptorLength)) 0 5 0 ∷ tells (numbers_of (Refused Bounds)) 0 2 0 ∷
+    tells (numbers_of (Refused Mode)) 0 3 0 ∷ tells (numbers_of (Refused (EntryCheck 6))) 0 4 6 ∷
+    tells (numbers_of (Redirected 0x5c)) 1 0x5c 0 ∷ tells (numbers_of Passthrough) 2 0 0 ∷ tells (numbers_of Fault) 3 0 0 ∷
     tells (numbers_of (Exit 28 0x308)) 4 28 0x308 ∷ tells (numbers_of (Delivered 0x71)) 5 0x71 0 ∷ tells (numbers_of Quiet) 6 0 0 ∷ []
 
 abbrev pub bounds_rows : List Bool

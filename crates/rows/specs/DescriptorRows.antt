@@ -1,17 +1,15 @@
 -- Document 02, E1, as rows: the descriptor, which vectors are posted in it, and what becomes of them.
-use Rattle.std.specs.Prelude.{ℕ, Bool, ◌&&◌, List, [], ◌∷◌, ◌++◌, eqb, replicate, set}
+use Rattle.std.specs.Prelude.{ℕ, Bool, ◌&&◌, List, [], ◌∷◌, ◌++◌, Option, None, Some, eqb, replicate, set}
 use Rattle.std.specs.Bool.{beq}
 use Rattle.processor.specs.Logic.{all_below}
 use Rattle.processor.specs.Rows.{at_each, at_none, same_bytes, word, with_words}
-use Rattle.registers.specs.declared.found.Found.{Found}
-use Rattle.registers.specs.declared.found.Found.TheVariants.{None, Vector}
 use Rattle.meaning.specs.Bench.{unposted, two_posted}
 use Rattle.descriptor.specs.Descriptor.{descriptor_fits, posted, highest_posted, posted_vectors, raised_by, joined, cleared}
 
 -- what is found is this vector, or none where it is 256
-abbrev finds : Found → ℕ → Bool
+abbrev finds : Option ℕ → ℕ → Bool
 finds None v = eqb v 256
-finds (Vector w) v = eqb w v
+finds (Some w) v = eqb w v
 
 -- one bit of one byte: this vector alone is posted, and is the highest
 abbrev posted_alone : ℕ → ℕ → ℕ → Bool
@@ -31,8 +29,8 @@ posted_rows =
 -- RVI becomes the larger of itself and the highest posted vector (unchanged if none).
 abbrev pub raised_rows : List Bool
 raised_rows =
-    eqb (raised_by 0x60 None) 0x60 ∷ eqb (raised_by 0x00 None) 0x00 ∷ eqb (raised_by 0x60 (Vector 0x71)) 0x71 ∷ eqb (raised_by 0x95 (Vector 0x71)) 0x95 ∷
-    eqb (raised_by 0x71 (Vector 0x71)) 0x71 ∷ []
+    eqb (raised_by 0x60 None) 0x60 ∷ eqb (raised_by 0x00 None) 0x00 ∷ eqb (raised_by 0x60 (Some 0x71)) 0x71 ∷ eqb (raised_by 0x95 (Some 0x71)) 0x95 ∷
+    eqb (raised_by 0x71 (Some 0x71)) 0x71 ∷ []
 
 -- as much of a page as holds VIRR, marked A5
 abbrev marks : List ℕ

@@ -1,5 +1,6 @@
 -- Document 01, "Memory accesses", as rows: passthrough, exit 44 with its qualification, and what a redirected read gives.
 use Rattle.std.specs.Prelude.{ℕ, true, false, List, [], ◌∷◌, ◌++◌}
+use Rattle.processor.specs.Access.{access}
 use Rattle.processor.specs.Rows.{word, controls}
 use Rattle.events.specs.declared.event.Event.{Event}
 use Rattle.events.specs.declared.event.Event.TheVariants.{MemoryRead, MemoryWrite}
@@ -13,7 +14,7 @@ page = marked (word 0x080 0x7a6b_5c4f ∷ word 0x0b0 0x1f2e_3d4c ∷ word 0x0d0 
 
 -- with these flags: a redirected read, and its value
 abbrev reads : ℕ → ℕ → ℕ → ℕ → Row
-reads flags offset size value = keeps page (guest 0x52 0x31 true (busy flags 0)) (MemoryRead offset size false false) (redirected value)
+reads flags offset size value = keeps page (guest 0x52 0x31 true (busy flags 0)) (MemoryRead (access offset size false false)) (redirected value)
 
 abbrev read_rows : List Row
 read_rows =
@@ -28,8 +29,8 @@ passes flags e = keeps page (guest 0x52 0x31 true (busy flags 0)) e passthrough
 
 abbrev pass_rows : List Row
 pass_rows =
-    passes 0x39 (MemoryRead 0x080 4 false false) ∷ passes 0x39 (MemoryWrite 0x080 4 false false 0x11) ∷ passes 0x39 (MemoryRead 0x080 8 true true) ∷
-    passes 0x00 (MemoryWrite 0x300 4 false false 0x0004_0071) ∷ passes 0x35 (MemoryWrite 0x0b0 4 false false 0) ∷ []
+    passes 0x39 (MemoryRead (access 0x080 4 false false)) ∷ passes 0x39 (MemoryWrite (access 0x080 4 false false) 0x11) ∷ passes 0x39 (MemoryRead (access 0x080 8 true true)) ∷
+    passes 0x00 (MemoryWrite (access 0x300 4 false false) 0x0004_0071) ∷ passes 0x35 (MemoryWrite (access 0x0b0 4 false false) 0) ∷ []
 
 -- Exit 44: root mode, nothing recognised, the page as before.
 abbrev exits44 : ℕ → Event → ℕ → Row
@@ -39,25 +40,25 @@ exits44 flags e qualification =
 abbrev exit_rows : List Row
 exit_rows =
     -- the offset isn't open
-    exits44 0x3b (MemoryRead 0x0a0 4 false false) 0x00a0 ∷ exits44 0x3b (MemoryWrite 0x0a0 4 false false 0x11) 0x10a0 ∷
-    exits44 0x3b (MemoryWrite 0x030 4 false false 0x11) 0x1030 ∷ exits44 0x33 (MemoryWrite 0x0d0 4 false false 0x11) 0x10d0 ∷
-    exits44 0x33 (MemoryRead 0x083 1 false false) 0x0083 ∷ exits44 0x03 (MemoryWrite 0x0b0 4 false false 0) 0x10b0 ∷
-    exits44 0x3b (MemoryRead 0xfff 1 false false) 0x0fff ∷
+    exits44 0x3b (MemoryRead (access 0x0a0 4 false false)) 0x00a0 ∷ exits44 0x3b (MemoryWrite (access 0x0a0 4 false false) 0x11) 0x10a0 ∷
+    exits44 0x3b (MemoryWrite (access 0x030 4 false false) 0x11) 0x1030 ∷ exits44 0x33 (MemoryWrite (access 0x0d0 4 false false) 0x11) 0x10d0 ∷
+    exits44 0x33 (MemoryRead (access 0x083 1 false false)) 0x0083 ∷ exits44 0x03 (MemoryWrite (access 0x0b0 4 false false) 0) 0x10b0 ∷
+    exits44 0x3b (MemoryRead (access 0xfff 1 false false)) 0x0fff ∷
     -- fetch
-    exits44 0x3b (MemoryRead 0x080 4 true false) 0x2080 ∷ exits44 0x3b (MemoryRead 0x0a0 4 true true) 0x20a0 ∷
+    exits44 0x3b (MemoryRead (access 0x080 4 true false)) 0x2080 ∷ exits44 0x3b (MemoryRead (access 0x0a0 4 true true)) 0x20a0 ∷
     -- the already-virtualised flag
-    exits44 0x3b (MemoryRead 0x080 4 false true) 0x0080 ∷ exits44 0x3b (MemoryWrite 0x080 4 false true 0x11) 0x1080 ∷
+    exits44 0x3b (MemoryRead (access 0x080 4 false true)) 0x0080 ∷ exits44 0x3b (MemoryWrite (access 0x080 4 false true) 0x11) 0x1080 ∷
     -- size 8; past the register
-    exits44 0x3b (MemoryRead 0x080 8 false false) 0x0080 ∷ exits44 0x3b (MemoryWrite 0x080 8 false false 0x11) 0x1080 ∷
-    exits44 0x3b (MemoryRead 0x0d2 4 false false) 0x00d2 ∷ exits44 0x3b (MemoryWrite 0x0d3 2 false false 0x11) 0x10d3 ∷
+    exits44 0x3b (MemoryRead (access 0x080 8 false false)) 0x0080 ∷ exits44 0x3b (MemoryWrite (access 0x080 8 false false) 0x11) 0x1080 ∷
+    exits44 0x3b (MemoryRead (access 0x0d2 4 false false)) 0x00d2 ∷ exits44 0x3b (MemoryWrite (access 0x0d3 2 false false) 0x11) 0x10d3 ∷
     -- shadow off
-    exits44 0x02 (MemoryRead 0x080 4 false false) 0x0080 ∷ exits44 0x02 (MemoryWrite 0x080 4 false false 0x11) 0x1080 ∷ []
+    exits44 0x02 (MemoryRead (access 0x080 4 false false)) 0x0080 ∷ exits44 0x02 (MemoryWrite (access 0x080 4 false false) 0x11) 0x1080 ∷ []
 
 -- K10 on a page that is zero throughout
 abbrev zero_rows : List Row
 zero_rows =
-    keeps zero_page (guest 0 0 false (controls 0x3b 0)) (MemoryRead 0x083 1 false false) (redirected 0) ∷
-    of_event zero_page (guest 0 0 false (controls 0x33 0)) (MemoryRead 0x083 1 false false) (exit 44 0x083) (root 0 0 false (controls 0x33 0)) [] ∷ []
+    keeps zero_page (guest 0 0 false (controls 0x3b 0)) (MemoryRead (access 0x083 1 false false)) (redirected 0) ∷
+    of_event zero_page (guest 0 0 false (controls 0x33 0)) (MemoryRead (access 0x083 1 false false)) (exit 44 0x083) (root 0 0 false (controls 0x33 0)) [] ∷ []
 
 abbrev pub access_rows : List Row
 access_rows = read_rows ++ pass_rows ++ exit_rows ++ zero_rows

@@ -1,5 +1,6 @@
 -- Document 01, "What comes back", as rows: which refusal, in the order 1, 2, 3, 4, with page and record unchanged.
 use Rattle.std.specs.Prelude.{ℕ, true, false, List, [], ◌∷◌, ◌++◌, replicate}
+use Rattle.processor.specs.Access.{access, between}
 use Rattle.processor.specs.Rows.{word}
 use Rattle.processor.specs.declared.controls.Record.{Record}
 use Rattle.events.specs.declared.event.Event.TheVariants.{Entry, Request, MemoryRead, MemoryWrite, ToCr8, FromCr8, Rdmsr, Wrmsr, Boundary}
@@ -33,7 +34,7 @@ inside flags = guest 0x52 0x31 true (busy flags 0)
 abbrev length_rows : List Row
 length_rows =
     gets 1 0 short_page (outside 0x31) (given (Request 0x60)) ∷ gets 1 0 long_page (outside 0x31) (given (Request 0x60)) ∷
-    gets 1 0 [] (outside 0x31) (given (Request 0x60)) ∷ gets 1 0 short_page (inside 0x3b) (given (MemoryRead 0x080 4 false false)) ∷
+    gets 1 0 [] (outside 0x31) (given (Request 0x60)) ∷ gets 1 0 short_page (inside 0x3b) (given (MemoryRead (access 0x080 4 false false))) ∷
     gets 1 0 long_page (inside 0x3b) (given boundary_open) ∷ gets 1 0 short_page (outside 0x31) (given (Entry (busy 0x31 0))) ∷
     gets 1 0 short_page (inside 0x831) (given (Request 0x100)) ∷ gets 1 0 long_page (outside 0x31) (given (Entry (busy 0x10 0))) ∷ []
 
@@ -45,18 +46,18 @@ bounds_rows =
     gets 2 0 page (outside 0x31) (given (Entry (busy 0x831 0))) ∷ gets 2 0 page (outside 0x31) (given (Entry (busy 0x810 0))) ∷
     gets 2 0 page (inside 0x31) (given (Entry (busy 0x831 0))) ∷
     gets 2 0 page (outside 0x31) (given (Request 0x100)) ∷ gets 2 0 page (inside 0x31) (given (Request 0x100)) ∷
-    gets 2 0 page (inside 0x3b) (given (MemoryRead 0x1000 1 false false)) ∷ gets 2 0 page (outside 0x3b) (given (MemoryRead 0x080 3 false false)) ∷
-    gets 2 0 page (inside 0x3b) (given (MemoryWrite 0x1000 1 false false 0)) ∷ gets 2 0 page (inside 0x3b) (given (MemoryWrite 0x080 1 true false 0)) ∷
-    gets 2 0 page (inside 0x3b) (given (MemoryWrite 0x080 1 false false 0x100)) ∷ gets 2 0 page (inside 0x3b) (given (ToCr8 16 0)) ∷
+    gets 2 0 page (inside 0x3b) (given (MemoryRead (access 0x1000 1 false false))) ∷ gets 2 0 page (outside 0x3b) (given (MemoryRead (access 0x080 3 false false))) ∷
+    gets 2 0 page (inside 0x3b) (given (MemoryWrite (access 0x1000 1 false false) 0)) ∷ gets 2 0 page (inside 0x3b) (given (MemoryWrite (access 0x080 1 true false) 0)) ∷
+    gets 2 0 page (inside 0x3b) (given (MemoryWrite (access 0x080 1 false false) 0x100)) ∷ gets 2 0 page (inside 0x3b) (given (ToCr8 16 0)) ∷
     gets 2 0 page (outside 0x3b) (given (ToCr8 0 16)) ∷ gets 2 0 page (inside 0x3b) (given (FromCr8 16)) ∷
-    gets 2 0 page (inside 0x3b) (given (Boundary true false false 4)) ∷ []
+    gets 2 0 page (inside 0x3b) (given (Boundary (between true false false 4))) ∷ []
 
 -- 3: the event is not allowed in this mode, before any check
 abbrev mode_rows : List Row
 mode_rows =
     gets 3 0 page (inside 0x31) (given (Entry (busy 0x31 0))) ∷ gets 3 0 page (inside 0x31) (given (Entry (busy 0x10 0))) ∷
-    gets 3 0 page (inside 0x31) (given (Request 0x60)) ∷ gets 3 0 page (outside 0x3b) (given (MemoryRead 0x080 4 false false)) ∷
-    gets 3 0 page (outside 0x3b) (given (MemoryWrite 0x080 1 false false 0)) ∷ gets 3 0 page (outside 0x3b) (given (ToCr8 15 15)) ∷
+    gets 3 0 page (inside 0x31) (given (Request 0x60)) ∷ gets 3 0 page (outside 0x3b) (given (MemoryRead (access 0x080 4 false false))) ∷
+    gets 3 0 page (outside 0x3b) (given (MemoryWrite (access 0x080 1 false false) 0)) ∷ gets 3 0 page (outside 0x3b) (given (ToCr8 15 15)) ∷
     gets 3 0 page (outside 0x3b) (given (FromCr8 15)) ∷ gets 3 0 page (outside 0x3d) (given (Rdmsr 0x808)) ∷
     gets 3 0 page (outside 0x3d) (given (Wrmsr 0x808 0x100)) ∷ gets 3 0 page (outside 0x33) (given boundary_open) ∷ []
 

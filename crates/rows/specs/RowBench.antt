@@ -1,6 +1,7 @@
 -- A row of one input: where it starts, what is done, and what must come of it; every byte of the page at the end. Then a row of an external
 -- interrupt with its descriptor.
 use Rattle.std.specs.Prelude.{ℕ, Bool, true, false, ◌&&◌, List, [], ◌∷◌, eqb}
+use Rattle.processor.specs.Access.{access}
 use Rattle.processor.specs.Rows.{same_bytes, Word, with_words}
 use Rattle.processor.specs.declared.controls.Controls.{Controls}
 use Rattle.processor.specs.declared.controls.Record.{Record}
@@ -75,4 +76,4 @@ abbrev pub refused : ℕ → ℕ → Numbers
 refused number check = numbers 0 number check
 
 abbrev pub write_eoi : Event
-write_eoi = MemoryWrite 0x0b0 4 false false 0
+write_eoi = MemoryWrite (access 0x0b0 4 false false) 0

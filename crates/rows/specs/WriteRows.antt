@@ -1,5 +1,6 @@
 -- Document 01, "Memory accesses", as rows: a redirected write stores its bytes, then by offset.
 use Rattle.std.specs.Prelude.{ℕ, Bool, true, false, List, [], ◌∷◌, ◌++◌}
+use Rattle.processor.specs.Access.{access}
 use Rattle.processor.specs.Rows.{Word, word}
 use Rattle.processor.specs.declared.controls.Record.{Record}
 use Rattle.events.specs.declared.answer.Numbers.{Numbers}
@@ -11,7 +12,7 @@ use Rattle.rows.specs.RowStart.{marked, busy, guest, root, of_event}
 -- value; the answer, the record and the words that change
 abbrev write : List Word → ℕ → ℕ → ℕ → ℕ → ℕ → Numbers → Record → List Word → Row
 write ws flags threshold offset size value a state end =
-    of_event (marked ws) (guest 0x52 0x31 true (busy flags threshold)) (MemoryWrite offset size false false value) a state end
+    of_event (marked ws) (guest 0x52 0x31 true (busy flags threshold)) (MemoryWrite (access offset size false false) value) a state end
 
 -- 080 clears VTPR's bytes 3:1, whatever the size, and does TPR virtualization: with VID on PPR virtualization, all 32 bits of VPPR, then
 -- evaluation by the new VPPR

@@ -1,5 +1,5 @@
 -- Document 01, "Entry and request", with E1 and E2 of document 02: the checks, and when exit 43 follows at once.
-use Rattle.std.specs.Prelude.{ℕ, Bool, not, ◌&&◌, ◌||◌, ltb, if◌then◌else◌}
+use Rattle.std.specs.Prelude.{ℕ, Bool, not, ◌&&◌, ◌||◌, ltb, eqb, Option, Some, None, if◌then◌else◌}
 use Rattle.processor.specs.Controls.{use_tpr_shadow, virtualize_apic_accesses, virtualize_x2apic_mode, apic_register_virtualization, virtual_delivery, external_interrupt_exiting, process_posted_interrupts, acknowledge_on_exit}
 use Rattle.priorities.specs.Priorities.{class}
 use Rattle.processor.specs.declared.controls.Controls.{Controls}
@@ -42,6 +42,10 @@ failing_check c vtpr =
     else if check5 c then 5
     else if check6 c vtpr then 6
     else 0
+
+-- a check by its number, none at 0
+abbrev pub numbered : ℕ → Option ℕ
+numbered check = if eqb check 0 then None else Some check
 
 -- After the checks: only with APIC accesses virtualised does exit 43 follow.
 abbrev pub exits_at_entry : Controls → ℕ → Bool

@@ -1,6 +1,6 @@
 // The entry checks, and when exit 43 follows an entry at once.
 ghost use Rattle.std.specs.Prelude.{◌≡◌};
-ghost use Rattle.rules.specs.EntryChecks.{check1, check2, check3, check4, check5, threshold_too_high, check6, failing_check, exits_at_entry};
+ghost use Rattle.rules.specs.EntryChecks.{check1, check2, check3, check4, check5, threshold_too_high, check6, failing_check, numbered, exits_at_entry};
 
 use processor::controls::{
     ACKNOWLEDGE_ON_EXIT, APIC_REGISTER_VIRTUALIZATION, Controls, EXTERNAL_INTERRUPT_EXITING,
@@ -55,29 +55,29 @@ fn check_6(c: Controls, vtpr: u8) -> bool
     !c.is_on(VIRTUALIZE_APIC_ACCESSES) & threshold_too_high(c, vtpr)
 }
 
-// The first failing check, or 0.
-pub fn failing_check(c: Controls, vtpr: u8) -> u8
-    ensures { result ≡ failing_check c vtpr }
+// The first failing check, or none.
+pub fn failing_check(c: Controls, vtpr: u8) -> Option<u8>
+    ensures { result ≡ numbered (failing_check c vtpr) }
 {
     if check_1(c) {
-        return 1;
+        return Some(1);
     }
     if check_2(c) {
-        return 2;
+        return Some(2);
     }
     if check_3(c) {
-        return 3;
+        return Some(3);
     }
     if check_4(c) {
-        return 4;
+        return Some(4);
     }
     if check_5(c) {
-        return 5;
+        return Some(5);
     }
     if check_6(c, vtpr) {
-        return 6;
+        return Some(6);
     }
-    0
+    None
 }
 
 // Exit 43 follows the entry at once.

@@ -5,43 +5,41 @@ ghost use Rattle.meaning.specs.Input.{given};
 ghost use Rattle.meaning.specs.Step.{step as step_of};
 ghost use Rattle.page.specs.Page.{byte_at};
 ghost use Rattle.trace.specs.Fields.{four_at};
-ghost use Rattle.trace.specs.Records.{memory_read_of, memory_write_of, to_cr8_of, wrmsr_of, boundary_of, event_of};
+ghost use Rattle.trace.specs.Records.{access_of, memory_read_of, memory_write_of, to_cr8_of, wrmsr_of, boundary_of, event_of};
 
 use events::answer::Outcome;
 use events::kind::{Kind, is_set};
 use model::kinds;
 use page::bytes::byte_at;
+use processor::access::MemoryAccess;
+use processor::boundary::Between;
 use processor::controls::{Controls, Record};
 use trace::fields::{eight_at, four_at, two_at};
 use trace::kinds::{BOUNDARY_FLAGS, KIND, MEMORY_FLAGS};
 
+// The access of a body of kind 2 or 3.
+fn access_of(body: &[u8]) -> MemoryAccess
+    ensures { result ≡ access_of body.now }
+{
+    let flags = byte_at(body, MEMORY_FLAGS);
+    MemoryAccess {
+        offset: two_at(body, 1),
+        size: byte_at(body, 3),
+        fetch: is_set(flags, 0),
+        already: is_set(flags, 1),
+    }
+}
+
 fn memory_read(page: &[u8], record: Record, body: &[u8]) -> Outcome
     ensures { Leaves (step_of page.now «record» (given (memory_read_of body.now))) result page.now }
 {
-    let flags = byte_at(body, MEMORY_FLAGS);
-    kinds::memory_read(
-        page,
-        record,
-        two_at(body, 1),
-        byte_at(body, 3),
-        is_set(flags, 0),
-        is_set(flags, 1),
-    )
+    kinds::memory_read(page, record, access_of(body))
 }
 
 fn memory_write(page: &mut [u8], record: Record, body: &[u8]) -> Outcome
     ensures { Leaves (step_of page.old «record» (given (memory_write_of body.now))) result page.new }
 {
-    let flags = byte_at(body, MEMORY_FLAGS);
-    kinds::memory_write(
-        page,
-        record,
-        two_at(body, 1),
-        byte_at(body, 3),
-        is_set(flags, 0),
-        is_set(flags, 1),
-        eight_at(body, 5),
-    )
+    kinds::memory_write(page, record, access_of(body), eight_at(body, 5))
 }
 
 fn to_cr8(page: &mut [u8], record: Record, body: &[u8]) -> Outcome
@@ -72,14 +70,13 @@ fn boundary(page: &mut [u8], record: Record, body: &[u8]) -> Outcome
     ensures { Leaves (step_of page.old «record» (given (boundary_of body.now))) result page.new }
 {
     let flags = byte_at(body, BOUNDARY_FLAGS);
-    kinds::boundary(
-        page,
-        record,
-        is_set(flags, 0),
-        is_set(flags, 1),
-        is_set(flags, 2),
-        byte_at(body, 2),
-    )
+    let at = Between {
+        interrupts: is_set(flags, 0),
+        sti: is_set(flags, 1),
+        mov_ss: is_set(flags, 2),
+        activity: byte_at(body, 2),
+    };
+    kinds::boundary(page, record, at)
 }
 
 fn request(page: &mut [u8], record: Record, body: &[u8]) -> Outcome

@@ -6,7 +6,7 @@ ghost use Rattle.trace.specs.Format.{kind_of};
 ghost use Rattle.std.specs.Prelude.{eqb, false, ◌≡◌};
 
 use crate::kinds::event_outcome;
-use events::answer::{Answer, Numbers, numbers_of};
+use events::answer::{Answer, Numbers};
 use model::fresh_record;
 use page::bytes::byte_at;
 use processor::controls::{Controls, Record};
@@ -45,7 +45,7 @@ fn controls_told(state: State, body: &[u8]) -> Told
     ensures { ControlsTold state body.now result }
 {
     Told {
-        numbers: numbers_of(Answer::Quiet),
+        numbers: Answer::Quiet.into(),
         state: State {
             controls: controls_of(body),
             ..state
@@ -59,7 +59,7 @@ fn event_told(page: &mut [u8], state: State, body: &[u8]) -> Told
 {
     let outcome = event_outcome(page, state.record, state.controls, body);
     Told {
-        numbers: numbers_of(outcome.answer),
+        numbers: outcome.answer.into(),
         state: State {
             record: outcome.record,
             ..state

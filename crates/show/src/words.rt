@@ -2,101 +2,114 @@
 use events::answer::Answer;
 use page::bytes::{byte_at, word_at};
 use processor::controls::Record;
-use processor::offsets::{VIRR, VPPR};
-use registers::found::Found;
-use registers::vectors::{highest_request, highest_service};
-use std::io;
+use processor::offsets::{VIRR, VISR, VPPR};
+use registers::vectors::highest_set;
+use std::fmt;
 
 // The word of VIRR that holds vectors 60H to 7FH.
 const REQUESTS: u16 = VIRR + 0x30;
 
-pub fn say(rt: &impl Print, words: &[u8]) -> io::Result<()> {
-    rt.write_all(words)
-}
+// An answer in words, and its three numbers.
+#[derive(Clone, Copy)]
+pub struct Told(pub Answer);
 
-fn say_decimal(rt: &impl Print, words: &[u8], number: u64) -> io::Result<()> {
-    say(rt, words)?;
-    print!(rt; "{number}")
-}
-
-fn say_hex(rt: &impl Print, words: &[u8], number: u64, digits: usize) -> io::Result<()> {
-    say(rt, words)?;
-    print!(rt; "{number:0digits$x}")
-}
-
-fn say_refused(rt: &impl Print, number: u64, check: u64) -> io::Result<()> {
-    say_decimal(rt, b"refusal ", number)?;
-    say_decimal(rt, b"                    [0 ", number)?;
-    say_decimal(rt, b" ", check)?;
-    say(rt, b"]     ")
-}
-
-fn say_redirected(rt: &impl Print, value: u64) -> io::Result<()> {
-    say_hex(rt, b"redirected ", value, 8)?;
-    say_hex(rt, b"H         [1 ", value, 8)?;
-    say(rt, b" 0]  ")
-}
-
-fn say_exit(rt: &impl Print, reason: u64, qualification: u64) -> io::Result<()> {
-    say_decimal(rt, b"exit ", reason)?;
-    say_hex(rt, b", qualification ", qualification, 3)?;
-    say_decimal(rt, b"H  [4 ", reason)?;
-    say_hex(rt, b" ", qualification, 3)?;
-    say(rt, b"]  ")
-}
-
-fn say_delivered(rt: &impl Print, vector: u64) -> io::Result<()> {
-    say_hex(rt, b"delivered ", vector, 2)?;
-    say_hex(rt, b"H                [5 ", vector, 2)?;
-    say(rt, b" 0]    ")
-}
-
-pub fn say_answer(rt: &impl Print, answer: Answer) -> io::Result<()> {
-    match answer {
-        Answer::Refused { number, check } => say_refused(rt, number as u64, check as u64),
-        Answer::Redirected(value) => say_redirected(rt, value),
-        Answer::Passthrough => say(rt, b"passthrough                  [2 0 0]     "),
-        Answer::Fault => say(rt, b"general-protection fault     [3 0 0]     "),
-        Answer::Exit {
-            reason,
-            qualification,
-        } => say_exit(rt, reason as u64, qualification),
-        Answer::Delivered(vector) => say_delivered(rt, vector as u64),
-        Answer::Quiet => say(rt, b"quiet                        [6 0 0]     "),
+impl fmt::Display for Told {
+    fn fmt<W: fmt::Write>(&self, f: &mut fmt::Formatter<W>) -> fmt::Result {
+        match self.0 {
+            Answer::Refused(refusal) => {
+                let (number, check) = (refusal.number(), refusal.check());
+                write!(
+                    f,
+                    "refusal {number}                    [0 {number} {check}]     "
+                )
+            }
+            Answer::Redirected(value) => {
+                write!(f, "redirected {value:08x}H         [1 {value:08x} 0]  ")
+            }
+            Answer::Passthrough => f.write_str("passthrough                  [2 0 0]     "),
+            Answer::Fault => f.write_str("general-protection fault     [3 0 0]     "),
+            Answer::Exit {
+                reason,
+                qualification,
+            } => write!(
+                f,
+                "exit {reason}, qualification {qualification:03x}H  [4 {reason} {qualification:03x}]  "
+            ),
+            Answer::Delivered(vector) => {
+                write!(
+                    f,
+                    "delivered {vector:02x}H                [5 {vector:02x} 0]    "
+                )
+            }
+            Answer::Quiet => f.write_str("quiet                        [6 0 0]     "),
+        }
     }
 }
 
-// What the search finds: "none" for an empty register, 00H for bit 0 alone.
-fn say_found(rt: &impl Print, words: &[u8], found: Found) -> io::Result<()> {
-    match found {
-        Found::None => {
-            say(rt, words)?;
-            say(rt, b"none")
-        }
-        Found::Vector(vector) => {
-            say_hex(rt, words, vector as u64, 2)?;
-            say(rt, b"H")
+// What a search finds: "none" for an empty register, 00H for bit 0 alone.
+#[derive(Clone, Copy)]
+struct Highest(Option<u8>);
+
+impl fmt::Display for Highest {
+    fn fmt<W: fmt::Write>(&self, f: &mut fmt::Formatter<W>) -> fmt::Result {
+        match self.0 {
+            None => f.write_str("none"),
+            Some(vector) => write!(f, "{vector:02x}H"),
         }
     }
 }
 
 // RVI, SVI and VPPR; the highest request and service.
-pub fn say_status(rt: &impl Print, page: &[u8], record: Record) -> io::Result<()> {
-    say_hex(rt, b"RVI ", record.rvi as u64, 2)?;
-    say_hex(rt, b" SVI ", record.svi as u64, 2)?;
-    say_hex(rt, b" VPPR ", byte_at(page, VPPR) as u64, 2)?;
-    say_found(rt, b", highest request ", highest_request(page))?;
-    say_found(rt, b", service ", highest_service(page))?;
-    say(rt, b"\n")
+#[derive(Clone, Copy)]
+pub struct Status {
+    rvi: u8,
+    svi: u8,
+    vppr: u8,
+    request: Highest,
+    service: Highest,
+}
+
+impl Status {
+    pub fn of(page: &[u8], record: Record) -> Status {
+        Status {
+            rvi: record.rvi,
+            svi: record.svi,
+            vppr: byte_at(page, VPPR),
+            request: Highest(highest_set(page, VIRR)),
+            service: Highest(highest_set(page, VISR)),
+        }
+    }
+}
+
+impl fmt::Display for Status {
+    fn fmt<W: fmt::Write>(&self, f: &mut fmt::Formatter<W>) -> fmt::Result {
+        let Status {
+            rvi,
+            svi,
+            vppr,
+            request,
+            service,
+        } = *self;
+        write!(
+            f,
+            "RVI {rvi:02x} SVI {svi:02x} VPPR {vppr:02x}, highest request {request}, service {service}"
+        )
+    }
 }
 
 // The request bits of vectors 60H to 7FH.
-pub fn say_requests(rt: &impl Print, page: &[u8]) -> io::Result<()> {
-    say_hex(
-        rt,
-        b"  request bits of 60H to 7FH (word 230H): ",
-        word_at(page, REQUESTS) as u64,
-        8,
-    )?;
-    say(rt, b"\n")
+#[derive(Clone, Copy)]
+pub struct Requests(u32);
+
+impl Requests {
+    pub fn of(page: &[u8]) -> Requests {
+        Requests(word_at(page, REQUESTS))
+    }
+}
+
+impl fmt::Display for Requests {
+    fn fmt<W: fmt::Write>(&self, f: &mut fmt::Formatter<W>) -> fmt::Result {
+        let bits = self.0;
+        write!(f, "  request bits of 60H to 7FH (word 230H): {bits:08x}")
+    }
 }

@@ -1,9 +1,14 @@
 -- Document 01, "Registers on the page": bytes stored, little-endian.
-use Rattle.std.specs.Prelude.{ℕ, ◌+◌, ◌/◌, ◌%◌, List, set}
+use Rattle.std.specs.Prelude.{ℕ, ◌+◌, ◌/◌, ◌%◌, List, [], ◌∷◌, set}
 
 -- the page with bytes stored; nothing changes past its end
 abbrev pub set_byte : List ℕ → ℕ → ℕ → List ℕ
 set_byte p at value = set p at value
+
+-- bytes stored one after another
+abbrev pub set_bytes : List ℕ → ℕ → List ℕ → List ℕ
+set_bytes p at [] = p
+set_bytes p at (b ∷ bs) = set_bytes (set_byte p at b) (at + 1) bs
 
 unfoldable pub set_half : List ℕ → ℕ → ℕ → List ℕ
 set_half p at value = set_byte (set_byte p at (value % 0x100)) (at + 1) (value / 0x100 % 0x100)

@@ -3,6 +3,7 @@ use Rattle.std.specs.Prelude.{ℕ, ◌≡◌, true, false, List, [], ◌∷◌, 
 use Rattle.events.specs.declared.event.Event.TheVariants.{Entry, MemoryRead, MemoryWrite, ToCr8, FromCr8, Rdmsr, Wrmsr, Boundary}
 use Rattle.trace.specs.Format.{body_readable, record_readable, body_at, next_place}
 use Rattle.trace.specs.Records.{controls_of, event_of}
+use Rattle.processor.specs.Access.{access, between}
 use Rattle.trace.specs.RecordRows.{Reads}
 
 -- eight different bytes
@@ -19,16 +20,16 @@ different_body high low =
 pub record BodyRows : Type 0 where
   -- every kind with every byte different
   pub controls_of_all : (body_readable (different_body 0x01 0xff) ≡ true) × (controls_of (different_body 0x01 0xff) ≡ record { flags = 0x1ff; threshold = 0x1415_1617; notification = 0; eoi_exit_0 = 0x2021_2223_2425_2627; eoi_exit_1 = 0x2829_2a2b_2c2d_2e2f; eoi_exit_2 = 0x3031_3233_3435_3637; eoi_exit_3 = 0x3839_3a3b_3c3d_3e3f })
-  pub read_of : Reads (2 ∷ 0x12 ∷ 0x34 ∷ 0x56 ∷ 2 ∷ []) (MemoryRead 0x1234 0x56 false true)
-  pub read_of_both : Reads (2 ∷ 0x12 ∷ 0x34 ∷ 0x56 ∷ 3 ∷ []) (MemoryRead 0x1234 0x56 true true)
-  pub write_of : Reads (3 ∷ 0x12 ∷ 0x34 ∷ 0x56 ∷ 1 ∷ eight) (MemoryWrite 0x1234 0x56 true false 0x9aab_bccd_deef_f001)
-  pub write_of_both : Reads (3 ∷ 0x12 ∷ 0x34 ∷ 0x56 ∷ 3 ∷ eight) (MemoryWrite 0x1234 0x56 true true 0x9aab_bccd_deef_f001)
+  pub read_of : Reads (2 ∷ 0x12 ∷ 0x34 ∷ 0x56 ∷ 2 ∷ []) (MemoryRead (access 0x1234 0x56 false true))
+  pub read_of_both : Reads (2 ∷ 0x12 ∷ 0x34 ∷ 0x56 ∷ 3 ∷ []) (MemoryRead (access 0x1234 0x56 true true))
+  pub write_of : Reads (3 ∷ 0x12 ∷ 0x34 ∷ 0x56 ∷ 1 ∷ eight) (MemoryWrite (access 0x1234 0x56 true false) 0x9aab_bccd_deef_f001)
+  pub write_of_both : Reads (3 ∷ 0x12 ∷ 0x34 ∷ 0x56 ∷ 3 ∷ eight) (MemoryWrite (access 0x1234 0x56 true true) 0x9aab_bccd_deef_f001)
   pub to_of : Reads (4 ∷ 0x12 ∷ 0x34 ∷ []) (ToCr8 0x12 0x34)
   pub from_of : Reads (5 ∷ 0xff ∷ []) (FromCr8 0xff)
   pub rdmsr_of : Reads (6 ∷ 0x12 ∷ 0x34 ∷ 0x56 ∷ 0x78 ∷ []) (Rdmsr 0x1234_5678)
   pub wrmsr_of : Reads (7 ∷ 0x12 ∷ 0x34 ∷ 0x56 ∷ 0x78 ∷ eight) (Wrmsr 0x1234_5678 0x9aab_bccd_deef_f001)
-  pub boundary_of : Reads (8 ∷ 5 ∷ 0xff ∷ []) (Boundary true false true 0xff)
-  pub boundary_of_all : Reads (8 ∷ 7 ∷ 2 ∷ []) (Boundary true true true 2)
+  pub boundary_of : Reads (8 ∷ 5 ∷ 0xff ∷ []) (Boundary (between true false true 0xff))
+  pub boundary_of_all : Reads (8 ∷ 7 ∷ 2 ∷ []) (Boundary (between true true true 2))
   -- an entry takes the controls for later entries
   pub entry_with : event_of (record { flags = 1; threshold = 2; notification = 3; eoi_exit_0 = 4; eoi_exit_1 = 5; eoi_exit_2 = 6; eoi_exit_3 = 7 }) (1 ∷ []) ≡ Entry (record { flags = 1; threshold = 2; notification = 3; eoi_exit_0 = 4; eoi_exit_1 = 5; eoi_exit_2 = 6; eoi_exit_3 = 7 })
   -- cut short by a byte, though what is there is a record by itself; a length whose high byte isn't 0

@@ -1,5 +1,6 @@
 -- Bodies, one of each kind and one of each way to be unreadable, as rows: the bytes, and what is read from them.
 use Rattle.std.specs.Prelude.{ℕ, ◌≡◌, true, false, List, [], ◌∷◌, ◌++◌, replicate}
+use Rattle.processor.specs.Access.{access, between}
 use Rattle.processor.specs.Controls.{no_controls}
 use Rattle.events.specs.declared.event.Event.{Event}
 use Rattle.events.specs.declared.event.Event.TheVariants.{Entry, Request, MemoryRead, MemoryWrite, ToCr8, FromCr8, Rdmsr, Wrmsr, Boundary}
@@ -28,17 +29,17 @@ pub record RecordRows : Type 0 where
   pub controls : (body_readable (controls_body 0x01 0x33) ≡ true) × (controls_of (controls_body 0x01 0x33) ≡ record { flags = 0x133; threshold = 5; notification = 0; eoi_exit_0 = 1; eoi_exit_1 = 2; eoi_exit_2 = 3; eoi_exit_3 = 4 })
   pub entry : Reads (1 ∷ []) (Entry no_controls)
   -- flags bit 0 is fetch, bit 1 already virtualised
-  pub memory_read : Reads (2 ∷ 0x03 ∷ 0x00 ∷ 4 ∷ 1 ∷ []) (MemoryRead 0x300 4 true false)
-  pub memory_write : Reads (3 ∷ 0xff ∷ 0xf0 ∷ 2 ∷ 2 ∷ long 0xab 0xcd) (MemoryWrite 0xfff0 2 false true 0xabcd)
-  pub write_with_fetch : Reads (3 ∷ 0 ∷ 0x80 ∷ 1 ∷ 1 ∷ long 0 0) (MemoryWrite 0x80 1 true false 0)
+  pub memory_read : Reads (2 ∷ 0x03 ∷ 0x00 ∷ 4 ∷ 1 ∷ []) (MemoryRead (access 0x300 4 true false))
+  pub memory_write : Reads (3 ∷ 0xff ∷ 0xf0 ∷ 2 ∷ 2 ∷ long 0xab 0xcd) (MemoryWrite (access 0xfff0 2 false true) 0xabcd)
+  pub write_with_fetch : Reads (3 ∷ 0 ∷ 0x80 ∷ 1 ∷ 1 ∷ long 0 0) (MemoryWrite (access 0x80 1 true false) 0)
   pub to_cr8 : Reads (4 ∷ 0xff ∷ 9 ∷ []) (ToCr8 0xff 9)
   pub from_cr8 : Reads (5 ∷ 10 ∷ []) (FromCr8 10)
   pub rdmsr : Reads (6 ∷ 0xc0 ∷ 0 ∷ 0x08 ∷ 0x09 ∷ []) (Rdmsr 0xc000_0809)
   pub wrmsr : Reads (7 ∷ 0 ∷ 0 ∷ 0x08 ∷ 0x3f ∷ 1 ∷ (replicate 6 0 ++ (0x71 ∷ []))) (Wrmsr 0x83f 0x0100_0000_0000_0071)
   -- flags bit 0 is IF, bit 1 blocking by STI, bit 2 by MOV SS
-  pub boundary_open : Reads (8 ∷ 1 ∷ 0 ∷ []) (Boundary true false false 0)
-  pub boundary_sti : Reads (8 ∷ 2 ∷ 1 ∷ []) (Boundary false true false 1)
-  pub boundary_mov_ss : Reads (8 ∷ 4 ∷ 3 ∷ []) (Boundary false false true 3)
+  pub boundary_open : Reads (8 ∷ 1 ∷ 0 ∷ []) (Boundary (between true false false 0))
+  pub boundary_sti : Reads (8 ∷ 2 ∷ 1 ∷ []) (Boundary (between false true false 1))
+  pub boundary_mov_ss : Reads (8 ∷ 4 ∷ 3 ∷ []) (Boundary (between false false true 3))
   pub request : Reads (9 ∷ 0xff ∷ []) (Request 0xff)
   -- no kind, an unknown one, a length that isn't its kind's, an unused flag bit
   pub no_kind : Unread []

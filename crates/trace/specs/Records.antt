@@ -1,5 +1,7 @@
 -- Document 02, E5: what a body says, its fields in document 01's order.
 use Rattle.std.specs.Prelude.{ℕ, Bool, List, eqb, if◌then◌else◌}
+use Rattle.processor.specs.Access.{access, between}
+use Rattle.processor.specs.declared.access.MemoryAccess.{MemoryAccess}
 use Rattle.processor.specs.Logic.{bit}
 use Rattle.processor.specs.declared.controls.Controls.{Controls}
 use Rattle.events.specs.declared.event.Event.{Event}
@@ -24,13 +26,17 @@ controls_of b =
       eoi_exit_3 = eight_at b 31;
     }
 
--- 2 memory read: offset 2 bytes, size, flags bit 0 fetch, 1 already-virtualised
+-- a memory access: offset 2 bytes, size, flags bit 0 fetch, 1 already-virtualised
+abbrev pub access_of : List ℕ → MemoryAccess
+access_of b = access (two_at b 1) (byte_at b 3) (bit (memory_flags b) 0) (bit (memory_flags b) 1)
+
+-- 2 memory read: its access
 unfoldable pub memory_read_of : List ℕ → Event
-memory_read_of b = MemoryRead (two_at b 1) (byte_at b 3) (bit (memory_flags b) 0) (bit (memory_flags b) 1)
+memory_read_of b = MemoryRead (access_of b)
 
 -- 3 memory write: plus 8-byte value
 unfoldable pub memory_write_of : List ℕ → Event
-memory_write_of b = MemoryWrite (two_at b 1) (byte_at b 3) (bit (memory_flags b) 0) (bit (memory_flags b) 1) (eight_at b 5)
+memory_write_of b = MemoryWrite (access_of b) (eight_at b 5)
 
 -- 4 to CR8: value, register
 unfoldable pub to_cr8_of : List ℕ → Event
@@ -42,7 +48,7 @@ wrmsr_of b = Wrmsr (four_at b 1) (eight_at b 5)
 
 -- 8 boundary: flags bit 0 IF, 1 STI, 2 MOV SS; activity
 unfoldable pub boundary_of : List ℕ → Event
-boundary_of b = Boundary (bit (boundary_flags b) 0) (bit (boundary_flags b) 1) (bit (boundary_flags b) 2) (byte_at b 2)
+boundary_of b = Boundary (between (bit (boundary_flags b) 0) (bit (boundary_flags b) 1) (bit (boundary_flags b) 2) (byte_at b 2))
 
 -- The event of each kind but 0: 1 entry, with the controls for later entries; 5 from CR8: register; 6 RDMSR: index; 9 request: vector.
 unfoldable pub event_of : Controls → List ℕ → Event

@@ -89,13 +89,13 @@ none-by-event : (e : Event) → served (event_move e (numbers 6 0 0)) [] ≡ []
 unfolding event_move
 none-by-event (Entry c) = refl
 none-by-event (Request vector) = refl
-none-by-event (MemoryRead offset size fetch already) = refl
-none-by-event (MemoryWrite offset size fetch already value) = by-offset (eqb offset vicr_lo) (eqb offset veoi) (value % 0x100)
+none-by-event (MemoryRead access) = refl
+none-by-event (MemoryWrite a value) = by-offset (eqb a.offset vicr_lo) (eqb a.offset veoi) (value % 0x100)
 none-by-event (ToCr8 value register) = refl
 none-by-event (FromCr8 register) = refl
 none-by-event (Rdmsr index) = refl
 none-by-event (Wrmsr index value) = by-offset (eqb index 0x83f) (eqb index 0x80b) (value % 0x100)
-none-by-event (Boundary interrupts sti movSs activity) = refl
+none-by-event (Boundary at) = refl
 
 none-by : (i : Input) → served (move_of i (numbers 6 0 0)) [] ≡ []
 unfolding move_of

@@ -4,7 +4,7 @@ use Rattle.meaning.specs.External.{descriptor_by}
 use Rattle.meaning.specs.Step.{step_by, step, descriptor_after}
 use Rattle.model.proofs.external_interrupt.Goals as goal
 
-pub returns-in-By : goal.returns-in-By
+pub returns-in-Err : goal.returns-in-Err
 unfolding step step_by descriptor_after descriptor_by
-returns-in-By c =
-    simp (sym c.external_refusal_of-refusal.ensures ∙ c.in-By.is) (record { outcome = c.refused.ensures _; descriptor = refl })
+returns-in-Err c =
+    simp (sym c.external_refusal_of-refusal.ensures ∙ c.in-Err.is) (record { outcome = c.refused.ensures _; descriptor = refl })

@@ -1,14 +1,15 @@
 -- Room for every trace, or for the text's length.
-use Rattle.std.proofs.Common.{arith}
+use Rattle.std.proofs.Common.{arith, ◌≤◌, length}
+use Rattle.recorded.specs.Replay.{replay_text}
 use Rattle.playback.proofs.Printing.{replay-fits}
 use Rattle.playback.proofs.replay.Goals as goal
+use Rattle.playback.proofs.replay.Goals.{else-room-room_for-via-then-room-room_for+else-room-measured, else-room-room_for-via-else-room-room_for}
 
-pub returns-then-room_for-room : goal.returns-then-room_for-room
-returns-then-room_for-room c =
-    replay-fits c.args.trace.now c.args.limit c.args.out.now c.wrote.result c.wrote.new.out c.wrote.ensures
-    (omega (arith, c.wrote.ensures.text.place, c.wrote.ensures.room, c.room_for.ensures, c.if-room_for-room.true))
-
-pub returns-then-measured-room : goal.returns-then-measured-room
-returns-then-measured-room c =
-    replay-fits c.args.trace.now c.args.limit c.args.out.now c.wrote-then-measured-room.result c.wrote-then-measured-room.new.out c.wrote-then-measured-room.ensures
-    (omega (arith, c.measured.ensures, c.if-measured-room.true))
+pub returns : goal.returns
+returns c =
+    let fits : length (replay_text c.args.trace.now c.args.limit) ≤ length c.args.out.now =
+    elim c.else-room-room_for.branch [
+      | else-room-room_for-via-then-room-room_for+else-room-measured w ↦ omega (arith, w.measured.ensures, w.if-room-measured.false)
+      | else-room-room_for-via-else-room-room_for w ↦ omega (arith, c.printed.ensures.text.place, c.printed.ensures.room, c.room_for.ensures, w.if-room-room_for.false)
+    ] in
+    replay-fits c.args.trace.now c.args.limit c.args.out.now c.printed.result c.printed.new.out c.printed.ensures fits

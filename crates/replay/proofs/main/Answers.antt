@@ -1,13 +1,12 @@
--- `replay::main` stays within its two arrays: what a replay writes lies in the buffer. Assumes nothing.
-use native.Mathlib.Omega.{arith}
-use lib.ListN.{length-take}
-use Rattle.playback.proofs.Printing.{replay-within}
+-- `replay::main` stays within its two arrays: the text lies in the buffer. Assumes nothing.
+use Rattle.std.proofs.Common.{arith, length-take}
+use Rattle.program.proofs.Program.{within}
 use Rattle.replay.proofs.main.Goals as goal
 
 pub slice_bounds-out-end : goal.slice_bounds-out-end
-slice_bounds-out-end c = replay-within c.replay-text.ensures
+slice_bounds-out-end c = within c.replay_program-written.ensures
 
 pub slice_bounds-write_all-end : goal.slice_bounds-write_all-end
 slice_bounds-write_all-end c =
-    let within = replay-within c.replay-text.ensures in
+    let within = within c.replay_program-written.ensures in
     simp length-take (omega arith)

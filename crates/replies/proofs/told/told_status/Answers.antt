@@ -5,6 +5,6 @@ use Rattle.replies.proofs.told.told_status.Goals as goal
 
 pub returns : goal.returns
 returns c = record {
-  numbers = c.numbers_of-numbers.ensures;
+  numbers = c.from-numbers.ensures;
   record_bytes = c.keep_status.ensures ∙ kept-status _ _ c.told-record c.fits-record c.requires _;
 }

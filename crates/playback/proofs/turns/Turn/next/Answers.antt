@@ -2,16 +2,16 @@
 use Rattle.std.proofs.Common.{refl, sym, arith, ◌+◌}
 use Rattle.text.proofs.Lengths.{line-short}
 use Rattle.playback.proofs.On.{goes-on, left-some, next-by-body}
-use Rattle.playback.proofs.turns.next_turn.Goals as goal
+use Rattle.playback.proofs.turns.Turn.next.Goals as goal
 
 pub overflow_cast-result : goal.overflow_cast-result
 overflow_cast-result c =
-    omega (arith, c.line-end.ensures.place, line-short (c.args.turn.count + 1) c.carried_out-told.result.numbers (omega (arith, c.requires.count)) c.carried_out-told.ensures.small, c.requires.count, c.requires.at)
+    omega (arith, c.line-end.ensures.place, line-short (c.args.self.count + 1) c.carried_out-told.result.numbers (omega (arith, c.requires.count)) c.carried_out-told.ensures.small, c.requires.count, c.requires.at)
 
 pub returns : goal.returns
 returns c =
     let t = c.args.trace.now in
-    let u = c.args.turn in
+    let u = c.args.self in
     let body = c.body_from-body.ensures in
     let tells = simp body at c.carried_out-told.ensures in
     let written = c.line-end.ensures in
