@@ -4,7 +4,7 @@ ghost use Rattle.replies.specs.Replies.{RepliesLent, external_reply, gg_external
 
 use crate::told::{refused, told_status};
 use descriptor::posted::descriptor_fits;
-use events::answer::Numbers;
+use events::answer::{Numbers, Refusal};
 use layout::records::{record_of, record_readable};
 use model::external_interrupt;
 
@@ -31,16 +31,16 @@ pub fn external_bytes(
     ensures { RepliesLent (gg_external_interrupt page.old «record».old descriptor.old vector) result.answer result.first result.second «record».new page.new descriptor.new }
 {
     if page.len() != 4096 {
-        return refused(1);
+        return refused(Refusal::PageLength);
     }
     if !descriptor_fits(descriptor) {
-        return refused(5);
+        return refused(Refusal::DescriptorLength);
     }
     let Some(record) = record.as_mut_array::<48>() else {
-        return refused(2);
+        return refused(Refusal::Bounds);
     };
     if !record_readable(record) {
-        return refused(2);
+        return refused(Refusal::Bounds);
     }
     external_reply(page, record, descriptor, vector)
 }

@@ -4,7 +4,7 @@
 ghost use Rattle.std.specs.Prelude.{◌≡◌, List, ℕ};
 ghost use Rattle.replies.specs.Replies.{Replies, gg_step, leave_reply, gg_leave};
 
-use events::answer::Numbers;
+use events::answer::{Numbers, Refusal};
 pub use external::external_bytes;
 use kinds::kind_reply;
 use layout::records::{record_of, record_readable};
@@ -19,13 +19,13 @@ pub fn step_bytes(page: &mut [u8], record: &mut [u8], event: &[u8]) -> Numbers
     ensures { Replies (gg_step page.old «record».old event.now) result.answer result.first result.second «record».new page.new }
 {
     if page.len() != 4096 {
-        return refused(1);
+        return refused(Refusal::PageLength);
     }
     let Some(record) = record.as_mut_array::<48>() else {
-        return refused(2);
+        return refused(Refusal::Bounds);
     };
     if event.len() != 48 || !record_readable(record) {
-        return refused(2);
+        return refused(Refusal::Bounds);
     }
     kind_reply(page, record, event)
 }
@@ -43,10 +43,10 @@ pub fn leave_bytes(record: &mut [u8]) -> Numbers
     ensures { (p : List ℕ) → Replies (gg_leave p «record».old) result.answer result.first result.second «record».new p }
 {
     let Some(record) = record.as_mut_array::<48>() else {
-        return refused(2);
+        return refused(Refusal::Bounds);
     };
     if !record_readable(record) {
-        return refused(2);
+        return refused(Refusal::Bounds);
     }
     leave_reply(record)
 }
