@@ -2,7 +2,7 @@
 ghost use Rattle.std.specs.Prelude.{◌≡◌};
 ghost use Rattle.calls.specs.Calls.{found_numbers, gg_highest};
 
-use events::answer::{Numbers, numbered};
+use events::answer::{Numbers, Refusal, numbered};
 use processor::offsets::{VIRR, VISR};
 use registers::vectors::highest_set;
 
@@ -12,7 +12,7 @@ fn found_numbers(found: Option<u8>) -> Numbers
 {
     match found {
         None => numbered(2, 0, 0),
-        Some(vector) => numbered(1, vector as u64, 0),
+        Some(vector) => numbered(1, vector.into(), 0),
     }
 }
 
@@ -21,11 +21,11 @@ pub fn highest_numbers(page: &[u8], base: u32) -> Numbers
     ensures { result ≡ gg_highest page.now base }
 {
     if page.len() != 4096 {
-        return numbered(0, 1, 0);
+        return Refusal::PageLength.into();
     }
     match u16::try_from(base) {
         Ok(VIRR) => found_numbers(highest_set(page, VIRR)),
         Ok(VISR) => found_numbers(highest_set(page, VISR)),
-        _ => numbered(0, 2, 0),
+        _ => Refusal::Bounds.into(),
     }
 }

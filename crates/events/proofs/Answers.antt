@@ -4,22 +4,12 @@ use mathlib.Core.Path.{◌≡◌, refl, sym, ◌∙◌, ap}
 use lib.Dec.{eqb}
 use Rattle.events.specs.declared.answer.Numbers.{Numbers}
 use Rattle.events.specs.Answers.{numbers_of}
-use Rattle.events.specs.declared.answer.Refusal.{Refusal}
-use Rattle.events.specs.declared.answer.Refusal.TheVariants.{PageLength, DescriptorLength, Bounds, Mode, EntryCheck}
 use Rattle.events.specs.declared.answer.Answer.{Answer}
 use Rattle.events.specs.declared.answer.Answer.TheVariants.{Refused, Redirected, Passthrough, Fault, Exit, Delivered, Quiet}
 
-abbrev refusal_of : Numbers → Refusal
-refusal_of n =
-    if eqb n.first 1 then PageLength
-    else if eqb n.first 5 then DescriptorLength
-    else if eqb n.first 2 then Bounds
-    else if eqb n.first 3 then Mode
-    else EntryCheck n.second
-
 abbrev answer_of : Numbers → Answer
 answer_of n =
-    if eqb n.answer 0 then Refused (refusal_of n)
+    if eqb n.answer 0 then Refused n.first n.second
     else if eqb n.answer 1 then Redirected n.first
     else if eqb n.answer 2 then Passthrough
     else if eqb n.answer 3 then Fault
@@ -28,11 +18,7 @@ answer_of n =
     else Quiet
 
 back : (a : Answer) → answer_of (numbers_of a) ≡ a
-back (Refused PageLength) = refl
-back (Refused DescriptorLength) = refl
-back (Refused Bounds) = refl
-back (Refused Mode) = refl
-back (Refused (EntryCheck check)) = refl
+back (Refused number check) = refl
 back (Redirected value) = refl
 back Passthrough = refl
 back Fault = refl

@@ -26,10 +26,14 @@ refusal_check Bounds = 0
 refusal_check Mode = 0
 refusal_check (EntryCheck check) = check
 
+-- the numbers of a refusal
+abbrev pub refusal_numbers : Refusal → Numbers
+refusal_numbers refusal = numbers 0 (refusal_number refusal) (refusal_check refusal)
+
 -- 0 refused (number, and for 4 the check); 1 redirected (value read); 2 passthrough; 3 general-protection fault;
 -- 4 VM exit (reason, qualification); 5 delivered (vector); 6 quiet, the event was carried out.
 abbrev pub numbers_of : Answer → Numbers
-numbers_of (Refused refusal) = numbers 0 (refusal_number refusal) (refusal_check refusal)
+numbers_of (Refused number check) = numbers 0 number check
 numbers_of (Redirected value) = numbers 1 value 0
 numbers_of Passthrough = numbers 2 0 0
 numbers_of Fault = numbers 3 0 0

@@ -1,6 +1,6 @@
 // What comes back of an input: the answer with its record, and its numbers.
 ghost use Rattle.std.specs.Prelude.{◌≡◌};
-ghost use Rattle.events.specs.Answers.{refusal_number, refusal_check, numbers, numbers_of};
+ghost use Rattle.events.specs.Answers.{refusal_number, refusal_check, refusal_numbers, numbers, numbers_of};
 
 use processor::controls::Record;
 
@@ -41,7 +41,8 @@ impl Refusal {
 
 #[derive(Clone, Copy)]
 pub enum Answer {
-    Refused(Refusal),
+    // By its number and the check of refusal 4: `Numbers::from` and the theorem `numbers_of-one-to-one` hold of any two bytes.
+    Refused { number: u8, check: u8 },
     Redirected(u64),
     Passthrough,
     Fault,
@@ -81,11 +82,7 @@ impl From<Answer> for Numbers {
 
     fn from(answer: Answer) -> Numbers {
         match answer {
-            Answer::Refused(refusal) => numbered(
-                0,
-                refusal.number().into(),
-                refusal.check().into(),
-            ),
+            Answer::Refused { number, check } => numbered(0, number.into(), check.into()),
             Answer::Redirected(value) => numbered(1, value, 0),
             Answer::Passthrough => numbered(2, 0, 0),
             Answer::Fault => numbered(3, 0, 0),
@@ -96,5 +93,14 @@ impl From<Answer> for Numbers {
             Answer::Delivered(vector) => numbered(5, vector.into(), 0),
             Answer::Quiet => numbered(6, 0, 0),
         }
+    }
+}
+
+// The numbers of a refusal.
+impl From<Refusal> for Numbers {
+    ghost from_gives = { λ refusal result. result ≡ refusal_numbers refusal };
+
+    fn from(refusal: Refusal) -> Numbers {
+        numbered(0, refusal.number().into(), refusal.check().into())
     }
 }

@@ -11,7 +11,10 @@ pub fn refused(record: Record, refusal: Refusal) -> Outcome
     ensures { (p : List ℕ) → Leaves (refused_of (refusal_number refusal) (refusal_check refusal) p «record») result p }
 {
     Outcome {
-        answer: Answer::Refused(refusal),
+        answer: Answer::Refused {
+            number: refusal.number(),
+            check: refusal.check(),
+        },
         record,
     }
 }

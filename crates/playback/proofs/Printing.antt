@@ -6,16 +6,15 @@ use mathlib.Core.Bool.{Bool, true, false}
 use mathlib.Core.List.{List}
 use Rattle.std.specs.Prelude.{Option, Some, None, if◌then◌else◌}
 use lib.ListN.{length}
-use borrow.Author.Tests.{le-leb}
+use borrow.Author.Tests.{leb-true, le-leb}
 use Rattle.text.specs.Lines.{bad_line}
 use Rattle.text.specs.Written.{written, Writes}
 use Rattle.text.proofs.Lengths.{bad-short}
 use Rattle.text.proofs.Writing.{written_start}
-use Rattle.meaning.specs.Run.{zero_page}
 use Rattle.recorded.specs.Replay.{is_trace, replay_text, replayed}
 use Rattle.playback.specs.declared.Text.{Text}
 use Rattle.playback.specs.declared.turns.Turn.{Turn}
-use Rattle.playback.specs.Turns.{last_of, text_left, Ended, Closes}
+use Rattle.playback.specs.Turns.{last_of, text_left, Lasts, Closes}
 use Rattle.playback.specs.Replays.{Prints, text_fits, buffer_after, Replays}
 use Rattle.playback.proofs.On.{last-left, none_left, last-short}
 
@@ -27,18 +26,19 @@ no-trace t limit o end o' e w = record {
   room = omega (arith, w.place, bad-short 0 (omega arith));
 }
 
-pub whole-trace : (t : List ℕ) (limit : ℕ) (o p : List ℕ) (u : Turn) (o₁ : List ℕ) (r : Text) (o₂ : List ℕ) → is_trace t ≡ true → length t ≤ 61440 → Ended t limit zero_page o u p o₁ → Closes t o₁ u r o₂ → Prints t limit o r o₂
-unfolding replay_text replayed
-whole-trace t limit o p u o₁ r o₂ e h d w =
-    let g = d.going in
-    let last : text_left t p u ≡ last_of t u.left u.place u.count = last-left t u _ d.over in
+pub whole-trace : (t : List ℕ) (limit : ℕ) (o : List ℕ) (u : Turn) (o₁ : List ℕ) (r : Text) (o₂ : List ℕ) → is_trace t ≡ true → Lasts t limit o u o₁ → Closes t o₁ u r o₂ → Prints t limit o r o₂
+unfolding is_trace replay_text replayed
+whole-trace t limit o u o₁ r o₂ e l w =
+    let small : length t ≤ 61440 = grind (arith, e, leb-true (length t) 61440) in
+    let g = l.ended.going in
+    let last : text_left t l.page u ≡ last_of t u.left u.place u.count = last-left t u _ l.ended.over in
     record {
       text = simp e record {
         place = omega (arith, w.text.place, g.end, ap length last);
         buffer = w.text.buffer ∙ (ap (λ (l : List ℕ). written o₁ u.at l) (sym last) ∙ g.buffer);
       };
-      count = simp e (omega (arith, w.count, g.counted, none_left t u d.over));
-      room = omega (arith, w.text.place, g.short, g.limited, last-short t u (omega (arith, g.early, g.inside)));
+      count = simp e (omega (arith, w.count, g.counted, none_left t u l.ended.over));
+      room = omega (arith, w.text.place, g.short, g.limited, last-short t u (omega (arith, small, g.early, g.inside)));
     }
 
 -- a text that fits stands at the buffer's start

@@ -1,5 +1,6 @@
 -- What the turns of a replay leave.
 use Rattle.std.specs.Prelude.{ℕ, ◌+◌, ◌*◌, ◌≤◌, ◌<◌, ◌≡◌, Bool, true, false, List, eqb, leb, length, if◌then◌else◌}
+use Rattle.meaning.specs.Run.{zero_page}
 use Rattle.trace.specs.Format.{record_readable, body_at, next_place}
 use Rattle.text.specs.Lines.{line, done_line, bad_line}
 use Rattle.text.specs.Written.{written, Writes}
@@ -69,3 +70,8 @@ pub record Going (t : List ℕ) (limit : ℕ) (text : List ℕ) (records : ℕ) 
 pub record Ended (t : List ℕ) (limit : ℕ) (p₀ o₀ : List ℕ) (u : Turn) (p o : List ℕ) : Type 0 where
   pub over : goes_on t u ≡ false
   pub going : Going t limit (text_from limit t 1 0 (record { held = record { page = p₀; state = begin.held.state }; controls = begin.controls })) (length (bodies limit t 1)) o₀ p o u
+
+-- the same from a page of zeros, on whatever page it ends
+pub record Lasts (t : List ℕ) (limit : ℕ) (o₀ : List ℕ) (u : Turn) (o : List ℕ) : Type 0 where
+  pub page : List ℕ
+  pub ended : Ended t limit zero_page o₀ u page o

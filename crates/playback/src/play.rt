@@ -1,9 +1,9 @@
 // The turns of a replay, one after another, and the text that they make.
-ghost use Rattle.std.specs.Prelude.{◌≡◌, ◌≤◌, true, eqb, length};
+ghost use Rattle.std.specs.Prelude.{◌≡◌, ◌≤◌, eqb, length};
 ghost use Rattle.page.specs.Page.{byte_at};
 ghost use Rattle.trace.specs.Format.{length_at, length_of_kind};
 ghost use Rattle.recorded.specs.Replay.{is_trace};
-ghost use Rattle.playback.specs.Turns.{Ended};
+ghost use Rattle.playback.specs.Turns.{Ended, Lasts};
 ghost use Rattle.playback.specs.Replays.{Prints};
 
 use crate::Text;
@@ -33,17 +33,15 @@ fn first_fits(trace: &[u8]) -> bool
     two_at(trace, 1) as usize == length_of_kind(byte_at(trace, 3))
 }
 
-// The text of a trace, written as far as the buffer goes; one whose first record has another length needs no page.
-fn told(trace: &[u8], limit: u32, out: &mut [u8]) -> Text
+// The replay of a trace up to its last line; one whose first record has another length needs no page.
+fn last_turn(trace: &[u8], limit: u32, out: &mut [u8]) -> Turn
     requires { length trace.now ≤ 61440 }
-    ensures { is_trace trace.now ≡ true → Prints trace.now limit out.old result out.new }
+    ensures { Lasts trace.now limit out.old result out.new }
 {
     if !first_fits(trace) {
-        return Turn::first(limit).last_line(trace, out);
+        return Turn::first(limit);
     }
-    let mut page = [0u8; 4096];
-    let last = turns(&mut page, trace, limit, out);
-    last.last_line(trace, out)
+    turns(&mut [0u8; 4096], trace, limit, out)
 }
 
 // A right version byte, and no more bytes than the longest trace.
@@ -63,5 +61,6 @@ pub fn printed(trace: &[u8], limit: u32, out: &mut [u8]) -> Text
             count: 0,
         };
     }
-    told(trace, limit, out)
+    let last = last_turn(trace, limit, out);
+    last.last_line(trace, out)
 }

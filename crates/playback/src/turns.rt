@@ -4,7 +4,7 @@ ghost use Rattle.playback.specs.Turns.{goes_on, Starts, Ready, Turned, Closes};
 
 use crate::Text;
 use reader::{body_from, readable_from};
-use session::{State, begin, carried_out};
+use session::{State, Told, begin, carried_out};
 use text::lines::{bad_line, done_line, line};
 
 // What is held, how many records may still be read, the place of the next, how many lines are written, and where they end.
@@ -44,11 +44,11 @@ impl Turn {
         ensures { Turned trace.now page.old out.old self result page.new out.new }
     {
         let body = body_from(trace, self.place);
-        let told = carried_out(page, self.state, body);
+        let Told { numbers, state } = carried_out(page, self.state, body);
         let count = self.count + 1;
-        let end = line(out, self.at, count, told.numbers);
+        let end = line(out, self.at, count, numbers);
         Turn {
-            state: told.state,
+            state,
             left: self.left - 1,
             place: self.place + 2 + body.len(),
             count,

@@ -1,6 +1,6 @@
 // The processor record and the controls in force.
 ghost use Rattle.std.specs.Prelude.{◌≡◌, ◌%◌};
-ghost use Rattle.processor.specs.Controls.{is_on, flags_in_bounds, eoi_exit_word, eoi_exit, no_controls, fresh, outside};
+ghost use Rattle.processor.specs.Controls.{is_on, flags_in_bounds, eoi_exit_word, eoi_exit, fresh, outside};
 
 // The controls, each by the bit at which it is stored.
 pub const USE_TPR_SHADOW: u8 = 0;
@@ -25,7 +25,9 @@ pub const PROCESS_POSTED_INTERRUPTS: u8 = 9;
 
 pub const ACKNOWLEDGE_ON_EXIT: u8 = 10;
 
-#[derive(Clone, Copy)]
+// The EOI-exit bits stand in four fields: the theorems of `keeping` and the rows speak of every `Controls`, and an array is in them a list
+// of any length.
+#[derive(Clone, Copy, Default)]
 pub struct Controls {
     pub flags: u32,
     pub threshold: u32,
@@ -36,7 +38,7 @@ pub struct Controls {
     pub eoi_exit_3: u64,
 }
 
-#[derive(Clone, Copy)]
+#[derive(Clone, Copy, Default)]
 pub struct Record {
     pub guest: bool,
     pub rvi: u8,
@@ -64,16 +66,12 @@ impl Controls {
     fn eoi_exit_word(self, word: u8) -> u64
         ensures { result ≡ eoi_exit_word self word }
     {
-        if word == 0 {
-            return self.eoi_exit_0;
+        match word {
+            0 => self.eoi_exit_0,
+            1 => self.eoi_exit_1,
+            2 => self.eoi_exit_2,
+            _ => self.eoi_exit_3,
         }
-        if word == 1 {
-            return self.eoi_exit_1;
-        }
-        if word == 2 {
-            return self.eoi_exit_2;
-        }
-        self.eoi_exit_3
     }
 
     // The EOI-exit bit of a vector.
@@ -98,29 +96,9 @@ impl Record {
     }
 }
 
-fn no_controls() -> Controls
-    ensures { result ≡ no_controls }
-{
-    Controls {
-        flags: 0,
-        threshold: 0,
-        notification: 0,
-        eoi_exit_0: 0,
-        eoi_exit_1: 0,
-        eoi_exit_2: 0,
-        eoi_exit_3: 0,
-    }
-}
-
 // The record before any event: root mode, all zero.
 pub fn fresh_record() -> Record
     ensures { result ≡ fresh }
 {
-    Record {
-        guest: false,
-        rvi: 0,
-        svi: 0,
-        recognised: false,
-        controls: no_controls(),
-    }
+    Record::default()
 }

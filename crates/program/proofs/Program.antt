@@ -3,14 +3,13 @@
 use native.Mathlib.Omega.{arith}
 use Prim.Native.Nat.{ℕ, ◌≤◌, ◌<◌}
 use mathlib.Core.Path.{◌≡◌, refl, sym, ap, ◌∙◌}
-use mathlib.Core.Bool.{Bool, true, false, ◌&&◌}
+use mathlib.Core.Bool.{Bool, true, false}
 use mathlib.Core.List.{List}
 use Rattle.std.specs.Prelude.{Some}
 use lib.Dec.{leb}
 use lib.ListN.{length, take, length-take, length-append}
-use lib.Seq.{take_all, length-take-le}
+use lib.Seq.{take_all}
 use borrow.Author.Tests.{leb-true, leb-false, lt-leb}
-use Rattle.trace.specs.Format.{version_fits}
 use Rattle.text.specs.Lines.{bad_line}
 use Rattle.recorded.specs.Replay.{is_trace, replay_text}
 use Rattle.recorded.specs.ProgramText.{program_limit, program_text}
@@ -28,11 +27,7 @@ fits {t} {o} {r} {o'} w =
 -- above 61,440 bytes there is only "bad 0"
 no-trace : (t : List ℕ) → 61440 < length t → is_trace t ≡ false
 unfolding is_trace
-no-trace t h = ap (λ (x : Bool). version_fits t && x) (lt-leb (length t) 61440 h) ∙ by (version_fits t)
-  where
-    by : (x : Bool) → (x && false) ≡ false
-    by true = refl
-    by false = refl
+no-trace t h = grind (arith, lt-leb (length t) 61440 h)
 
 too_long : (t : List ℕ) → 61440 < length t → program_text t ≡ bad_line 0
 unfolding program_text replay_text
@@ -43,9 +38,7 @@ enough n t h = by (leb (length t) n) refl
   where
     by : (x : Bool) → leb (length t) n ≡ x → program_text (take n t) ≡ program_text t
     by true e = ap program_text (take_all n t (leb-true _ _ e))
-    by false e =
-        let longer = leb-false (length t) n e in
-        too_long (take n t) (omega (arith, length-take-le n t (omega arith))) ∙ sym (too_long t (omega arith))
+    by false e = let longer = leb-false (length t) n e in cc (too_long (take n t) (simp length-take (omega arith)), too_long t (omega arith))
 
 -- the text of what an array holds is that of the whole input
 pub held : {b : List ℕ} {n : ℕ} {o : List ℕ} {r : ℕ} {o' : List ℕ} → 61440 < length b → Prints (take n b) o r o' → PrintsHeld b n o r o'

@@ -2,7 +2,7 @@
 ghost use Rattle.std.specs.Prelude.{◌≡◌};
 ghost use Rattle.replies.specs.Replies.{RepliesLent, external_reply, gg_external_interrupt};
 
-use crate::told::{refused, told_status};
+use crate::told::told_status;
 use descriptor::posted::descriptor_fits;
 use events::answer::{Numbers, Refusal};
 use layout::records::{record_of, record_readable};
@@ -31,16 +31,16 @@ pub fn external_bytes(
     ensures { RepliesLent (gg_external_interrupt page.old «record».old descriptor.old vector) result.answer result.first result.second «record».new page.new descriptor.new }
 {
     if page.len() != 4096 {
-        return refused(Refusal::PageLength);
+        return Refusal::PageLength.into();
     }
     if !descriptor_fits(descriptor) {
-        return refused(Refusal::DescriptorLength);
+        return Refusal::DescriptorLength.into();
     }
     let Some(record) = record.as_mut_array::<48>() else {
-        return refused(Refusal::Bounds);
+        return Refusal::Bounds.into();
     };
     if !record_readable(record) {
-        return refused(Refusal::Bounds);
+        return Refusal::Bounds.into();
     }
     external_reply(page, record, descriptor, vector)
 }

@@ -5,7 +5,7 @@ ghost use Rattle.layout.specs.EventBytes.{flags_of, detail_of, number_of, value_
 ghost use Rattle.layout.specs.RecordBytes.{controls_of, reserved_zero};
 ghost use Rattle.replies.specs.Replies.{Replies, kind_reply};
 
-use crate::told::{refused, told, told_status};
+use crate::told::{told, told_status};
 use events::answer::{Numbers, Refusal};
 use events::kind::{Kind, is_set};
 use layout::controls::{controls_of, reserved_zero};
@@ -23,7 +23,7 @@ fn entry_reply(page: &mut [u8], record: &mut [u8; 48], event: &[u8]) -> Numbers
     ensures { Replies (kind_reply (reserved_zero event.now) (Entry (controls_of event.now)) page.old «record».old) result.answer result.first result.second «record».new page.new }
 {
     if !reserved_zero(event) {
-        return refused(Refusal::Bounds);
+        return Refusal::Bounds.into();
     }
     let outcome = entry(page, record_of(record), controls_of(event));
     told(record, outcome)
@@ -47,7 +47,7 @@ fn memory_read_reply(page: &mut [u8], record: &mut [u8; 48], event: &[u8]) -> Nu
     ensures { Replies (kind_reply (memory_readable event.now) (memory_read_of event.now) page.old «record».old) result.answer result.first result.second «record».new page.new }
 {
     if !memory_readable(event) {
-        return refused(Refusal::Bounds);
+        return Refusal::Bounds.into();
     }
     let outcome = memory_read(page, record_of(record), access_of(event));
     told_status(record, outcome)
@@ -58,7 +58,7 @@ fn memory_write_reply(page: &mut [u8], record: &mut [u8; 48], event: &[u8]) -> N
     ensures { Replies (kind_reply (memory_readable event.now) (memory_write_of event.now) page.old «record».old) result.answer result.first result.second «record».new page.new }
 {
     if !memory_readable(event) {
-        return refused(Refusal::Bounds);
+        return Refusal::Bounds.into();
     }
     let outcome = memory_write(
         page,
@@ -75,7 +75,7 @@ fn to_cr8_reply(page: &mut [u8], record: &mut [u8; 48], event: &[u8]) -> Numbers
 {
     let value = long_within(event, VALUE);
     if 0x100 <= value {
-        return refused(Refusal::Bounds);
+        return Refusal::Bounds.into();
     }
     let outcome = to_cr8(
         page,
@@ -121,7 +121,7 @@ fn boundary_reply(page: &mut [u8], record: &mut [u8; 48], event: &[u8]) -> Numbe
 {
     let flags = byte_at(event, FLAGS);
     if 8 <= flags {
-        return refused(Refusal::Bounds);
+        return Refusal::Bounds.into();
     }
     let at = Between {
         interrupts: is_set(flags, 0),
@@ -139,7 +139,7 @@ fn request_reply(page: &mut [u8], record: &mut [u8; 48], event: &[u8]) -> Number
 {
     let number = word_within(event, NUMBER);
     if 0x1_0000 <= number {
-        return refused(Refusal::Bounds);
+        return Refusal::Bounds.into();
     }
     let outcome = request(page, record_of(record), (number % 0x1_0000) as u16);
     told_status(record, outcome)
@@ -159,6 +159,6 @@ pub fn kind_reply(page: &mut [u8], record: &mut [u8; 48], event: &[u8]) -> Numbe
         Ok(Kind::Wrmsr) => wrmsr_reply(page, record, event),
         Ok(Kind::Boundary) => boundary_reply(page, record, event),
         Ok(Kind::Request) => request_reply(page, record, event),
-        Err(_) => refused(Refusal::Bounds),
+        Err(_) => Refusal::Bounds.into(),
     }
 }

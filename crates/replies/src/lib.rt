@@ -8,7 +8,7 @@ use events::answer::{Numbers, Refusal};
 pub use external::external_bytes;
 use kinds::kind_reply;
 use layout::records::{record_of, record_readable};
-use told::{refused, told_status};
+use told::told_status;
 
 mod external;
 mod kinds;
@@ -19,13 +19,13 @@ pub fn step_bytes(page: &mut [u8], record: &mut [u8], event: &[u8]) -> Numbers
     ensures { Replies (gg_step page.old «record».old event.now) result.answer result.first result.second «record».new page.new }
 {
     if page.len() != 4096 {
-        return refused(Refusal::PageLength);
+        return Refusal::PageLength.into();
     }
     let Some(record) = record.as_mut_array::<48>() else {
-        return refused(Refusal::Bounds);
+        return Refusal::Bounds.into();
     };
     if event.len() != 48 || !record_readable(record) {
-        return refused(Refusal::Bounds);
+        return Refusal::Bounds.into();
     }
     kind_reply(page, record, event)
 }
@@ -43,10 +43,10 @@ pub fn leave_bytes(record: &mut [u8]) -> Numbers
     ensures { (p : List ℕ) → Replies (gg_leave p «record».old) result.answer result.first result.second «record».new p }
 {
     let Some(record) = record.as_mut_array::<48>() else {
-        return refused(Refusal::Bounds);
+        return Refusal::Bounds.into();
     };
     if !record_readable(record) {
-        return refused(Refusal::Bounds);
+        return Refusal::Bounds.into();
     }
     leave_reply(record)
 }

@@ -1,19 +1,10 @@
 // What a call tells: the answer's numbers, and the record's bytes where the answer changes them.
 ghost use Rattle.std.specs.Prelude.{◌≡◌};
-ghost use Rattle.events.specs.Answers.{numbers_of};
-ghost use Rattle.events.specs.declared.answer.Answer.TheVariants.{Refused};
 ghost use Rattle.layout.specs.RecordBytes.{controls_of};
 ghost use Rattle.replies.specs.Replies.{Told};
 
-use events::answer::{Answer, Numbers, Outcome, Refusal};
+use events::answer::{Numbers, Outcome};
 use keeping::{keep, keep_status};
-
-// The numbers of a refusal.
-pub fn refused(refusal: Refusal) -> Numbers
-    ensures { result ≡ numbers_of (Refused refusal) }
-{
-    Answer::Refused(refusal).into()
-}
 
 // The outcome's numbers; the record's bytes take its record where the answer changes it.
 pub fn told(record: &mut [u8; 48], outcome: Outcome) -> Numbers

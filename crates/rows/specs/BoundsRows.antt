@@ -1,15 +1,16 @@
 -- Document 01, "Events" and "What comes back", as rows: the bounds of every field, the mode that an event belongs to, and the number and
 -- values of each answer.
-use Rattle.std.specs.Prelude.{ℕ, Bool, true, false, not, ◌&&◌, List, [], ◌∷◌, ◌++◌}
+use Rattle.std.specs.Prelude.{ℕ, Bool, true, false, not, ◌&&◌, List, [], ◌∷◌, ◌++◌, eqb}
 use Rattle.processor.specs.Access.{access, between}
 use Rattle.processor.specs.Rows.{at_each, at_none, notified, flagged}
 use Rattle.processor.specs.declared.controls.Controls.{Controls}
 use Rattle.processor.specs.declared.controls.Record.{Record}
 use Rattle.events.specs.declared.event.Event.{Event}
 use Rattle.events.specs.declared.event.Event.TheVariants.{Entry, Request, MemoryRead, MemoryWrite, ToCr8, FromCr8, Rdmsr, Wrmsr, Boundary}
+use Rattle.events.specs.declared.answer.Refusal.{Refusal}
 use Rattle.events.specs.declared.answer.Refusal.TheVariants.{PageLength, DescriptorLength, Bounds, Mode, EntryCheck}
 use Rattle.events.specs.declared.answer.Answer.TheVariants.{Refused, Redirected, Passthrough, Fault, Exit, Delivered, Quiet}
-use Rattle.events.specs.Answers.{numbers_of}
+use Rattle.events.specs.Answers.{refusal_number, refusal_check, numbers_of}
 use Rattle.rows.specs.RowBench.{tells}
 use Rattle.events.specs.Events.{offset_in_bounds, vector_in_bounds, size_in_bounds, value_in_bounds, cr8_in_bounds, activity_in_bounds, event_in_bounds, in_bounds, root_only, allowed}
 
@@ -75,13 +76,20 @@ mode_rows =
     guest_alone (MemoryWrite (access 0x080 1 false false) 0) ∷ guest_alone (ToCr8 0 0) ∷ guest_alone (FromCr8 0) ∷ guest_alone (Rdmsr 0x808) ∷
     guest_alone (Wrmsr 0x808 0) ∷ guest_alone (Boundary (between true false false 0)) ∷ []
 
+-- each refusal has its number, and refusal 4 alone its check
+abbrev refused_by : Refusal → ℕ → ℕ → Bool
+refused_by refusal number check = eqb (refusal_number refusal) number && eqb (refusal_check refusal) check
+
+abbrev pub refusal_rows : List Bool
+refusal_rows =
+    refused_by PageLength 1 0 ∷ refused_by DescriptorLength 5 0 ∷ refused_by Bounds 2 0 ∷ refused_by Mode 3 0 ∷ refused_by (EntryCheck 6) 4 6 ∷
+    refused_by (EntryCheck 1) 4 1 ∷ []
+
 -- each answer has its number and its values; numbers not named are 0
 abbrev pub answer_rows : List Bool
 answer_rows =
-    tells (numbers_of (Refused PageLength)) 0 1 0 ∷ tells (numbers_of (Refused DescriptorLength)) 0 5 0 ∷ tells (numbers_of (Refused Bounds)) 0 2 0 ∷
-    tells (numbers_of (Refused Mode)) 0 3 0 ∷ tells (numbers_of (Refused (EntryCheck 6))) 0 4 6 ∷
-    tells (numbers_of (Redirected 0x5c)) 1 0x5c 0 ∷ tells (numbers_of Passthrough) 2 0 0 ∷ tells (numbers_of Fault) 3 0 0 ∷
+    tells (numbers_of (Refused 4 6)) 0 4 6 ∷ tells (numbers_of (Redirected 0x5c)) 1 0x5c 0 ∷ tells (numbers_of Passthrough) 2 0 0 ∷ tells (numbers_of Fault) 3 0 0 ∷
     tells (numbers_of (Exit 28 0x308)) 4 28 0x308 ∷ tells (numbers_of (Delivered 0x71)) 5 0x71 0 ∷ tells (numbers_of Quiet) 6 0 0 ∷ []
 
 abbrev pub bounds_rows : List Bool
-bounds_rows = field_rows ++ value_rows ++ event_rows ++ record_rows ++ mode_rows ++ answer_rows
+bounds_rows = field_rows ++ value_rows ++ event_rows ++ record_rows ++ mode_rows ++ refusal_rows ++ answer_rows

@@ -7,7 +7,7 @@ use Rattle.events.specs.declared.answer.Answer.TheVariants.{Refused, Redirected,
 
 -- an answer's number has one digit
 pub one_digit : (a : Answer) → (numbers_of a).answer < 10
-one_digit (Refused refusal) = omega arith
+one_digit (Refused number check) = omega arith
 one_digit (Redirected value) = omega arith
 one_digit Passthrough = omega arith
 one_digit Fault = omega arith

@@ -16,13 +16,11 @@ fn put_bit(byte: u8, vector: u8, on: bool) -> u8
     ensures { result ≡ put_bit byte (vector % 8) on }
 {
     let mask = 1u8 << (vector % 8);
-    if on {
-        return byte | mask;
-    }
-    byte & !mask
+    if on { byte | mask } else { byte & !mask }
 }
 
-// The vector's bit on, or off, in a register that starts where the slice does.
+// The vector's bit on, or off, in a register that starts where the slice does; a test and no `get_mut`, whose contract leaves open what
+// the slice becomes.
 fn put_in(register: &mut [u8], vector: u8, on: bool)
     ensures { register.new ≡ put_vector register.old 0 vector on }
 {

@@ -23,7 +23,7 @@ const CONTROLS_M: u32 = 0x33;
 fn entry(flags: u32) -> Event {
     Event::Entry(Controls {
         flags,
-        ..fresh_record().controls
+        ..Controls::default()
     })
 }
 

@@ -16,8 +16,7 @@ pub struct Told(pub Answer);
 impl fmt::Display for Told {
     fn fmt<W: fmt::Write>(&self, f: &mut fmt::Formatter<W>) -> fmt::Result {
         match self.0 {
-            Answer::Refused(refusal) => {
-                let (number, check) = (refusal.number(), refusal.check());
+            Answer::Refused { number, check } => {
                 write!(
                     f,
                     "refusal {number}                    [0 {number} {check}]     "

@@ -9,33 +9,22 @@ use stores::bytes::{set_byte, set_half, set_long, set_word};
 pub fn read_at(page: &[u8], offset: u16, size: u8) -> u64
     ensures { result ≡ read_at page.now offset size }
 {
-    if size == 1 {
-        return byte_at(page, offset) as u64;
+    match size {
+        1 => byte_at(page, offset) as u64,
+        2 => half_at(page, offset) as u64,
+        4 => word_at(page, offset) as u64,
+        _ => long_at(page, offset),
     }
-    if size == 2 {
-        return half_at(page, offset) as u64;
-    }
-    if size == 4 {
-        return word_at(page, offset) as u64;
-    }
-    long_at(page, offset)
 }
 
 // The bytes of a write, by its size.
 pub fn store_at(page: &mut [u8], offset: u16, size: u8, value: u64)
     ensures { page.new ≡ store_at page.old offset size value }
 {
-    if size == 1 {
-        set_byte(page, offset, (value % 0x100) as u8);
-        return;
+    match size {
+        1 => set_byte(page, offset, (value % 0x100) as u8),
+        2 => set_half(page, offset, (value % 0x1_0000) as u16),
+        4 => set_word(page, offset, (value % 0x1_0000_0000) as u32),
+        _ => set_long(page, offset, value),
     }
-    if size == 2 {
-        set_half(page, offset, (value % 0x1_0000) as u16);
-        return;
-    }
-    if size == 4 {
-        set_word(page, offset, (value % 0x1_0000_0000) as u32);
-        return;
-    }
-    set_long(page, offset, value);
 }

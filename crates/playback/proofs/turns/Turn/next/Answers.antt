@@ -6,17 +6,17 @@ use Rattle.playback.proofs.turns.Turn.next.Goals as goal
 
 pub overflow_cast-result : goal.overflow_cast-result
 overflow_cast-result c =
-    omega (arith, c.line-end.ensures.place, line-short (c.args.self.count + 1) c.carried_out-told.result.numbers (omega (arith, c.requires.count)) c.carried_out-told.ensures.small, c.requires.count, c.requires.at)
+    omega (arith, c.line-end.ensures.place, line-short (c.args.self.count + 1) c.carried_out.result.numbers (omega (arith, c.requires.count)) c.carried_out.ensures.small, c.requires.count, c.requires.at)
 
 pub returns : goal.returns
 returns c =
     let t = c.args.trace.now in
     let u = c.args.self in
     let body = c.body_from-body.ensures in
-    let tells = simp body at c.carried_out-told.ensures in
+    let tells = simp body at c.carried_out.ensures in
     let written = c.line-end.ensures in
     let left = left-some t u c.requires.on in
-    let short = line-short (u.count + 1) c.carried_out-told.result.numbers (omega (arith, c.requires.count)) c.carried_out-told.ensures.small in
+    let short = line-short (u.count + 1) c.carried_out.result.numbers (omega (arith, c.requires.count)) c.carried_out.ensures.small in
     record {
       session = tells.session;
       left = omega arith;
