@@ -10,10 +10,8 @@ use keeping::{keep, keep_status};
 pub fn told(record: &mut [u8; 48], outcome: Outcome) -> Numbers
     ensures { Told outcome «record».old result «record».new }
 {
-    let answer = outcome.answer;
-    let state = outcome.record;
-    let numbers = Numbers::from(answer);
-    keep(record, numbers.answer, state);
+    let numbers = Numbers::from(outcome.answer);
+    keep(record, numbers.answer, outcome.record);
     numbers
 }
 
@@ -22,9 +20,7 @@ pub fn told_status(record: &mut [u8; 48], outcome: Outcome) -> Numbers
     requires { outcome.«record».controls ≡ controls_of «record».old }
     ensures { Told outcome «record».old result «record».new }
 {
-    let answer = outcome.answer;
-    let state = outcome.record;
-    let numbers = Numbers::from(answer);
-    keep_status(record, numbers.answer, state);
+    let numbers = Numbers::from(outcome.answer);
+    keep_status(record, numbers.answer, outcome.record);
     numbers
 }

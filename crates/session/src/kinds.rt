@@ -1,4 +1,5 @@
 // The event of each kind of record, its fields read from the body, carried out by the model.
+ghost use Rattle.std.specs.Prelude.{◌≡◌};
 ghost use Rattle.events.specs.declared.event.Event.TheVariants.{FromCr8, Rdmsr, Request};
 ghost use Rattle.meaning.specs.After.{Leaves};
 ghost use Rattle.meaning.specs.Input.{given};
