@@ -1,5 +1,5 @@
 // What the program `replay` decides beside the replay: what its arguments ask, what a read says, and the words that it then says.
-#![tactic(auto, unfolding(crate::specs::Command::asked_of, crate::specs::Command::piece_of, crate::specs::Command::usage_text, crate::specs::Command::words_of))]
+#![tactic(auto, unfolding(crate::specs::Command::piece_of, crate::specs::Command::usage_text, crate::specs::Command::words_of))]
 
 ghost use Rattle.std.specs.Prelude.{◌≡◌};
 ghost use Rattle.command.specs.Command.{asked_of, piece_of, words_of, usage_text};

@@ -1,7 +1,7 @@
 // The replay of a trace into a lent buffer.
 #![tactic(auto, unfolding(crate::specs::Replays::buffer_after, crate::specs::Replays::text_fits, crate::specs::Turns::goes_on, crate::specs::Turns::last_of, recorded::specs::Replay::is_trace))]
 
-ghost use Rattle.std.specs.Prelude.{◌≡◌, leb, length};
+ghost use Rattle.std.specs.Prelude.{◌≡◌, length};
 ghost use Rattle.recorded.specs.Replay.{replay_text};
 ghost use Rattle.playback.specs.Replays.{room_for, Replays};
 
@@ -37,7 +37,7 @@ fn measured(trace: &[u8], limit: u32) -> u64
 }
 
 // The text of a replay of at most so many records, at the start of the buffer, or none where the buffer is too short: then nothing of it is
-// changed. Only for a buffer without room for every trace the text is measured first.
+// changed. Only for a buffer without room for every trace is the text measured first.
 pub fn replay(trace: &[u8], limit: u32, out: &mut [u8]) -> Option<Text>
     ensures { Replays trace.now limit out.old result out.new }
 {
