@@ -53,10 +53,9 @@ fn found_at(place: u32) -> Option<u8>
     requires { place ≤ 256 }
     ensures { result ≡ found_at place }
 {
-    if place == NOWHERE {
-        None
-    } else {
-        Some(place as u8)
+    match place {
+        NOWHERE => None,
+        _ => Some(place as u8),
     }
 }
 
