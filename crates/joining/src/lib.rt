@@ -11,6 +11,9 @@ use stores::bytes::{set_byte, set_long, set_word};
 // Where the outstanding-notification bit stands.
 const OUTSTANDING: u16 = 32;
 
+// The bytes of the request bits.
+const REQUESTS: usize = 32;
+
 // Posted bits join VIRR, word by word.
 pub fn join(page: &mut [u8], descriptor: &[u8])
     ensures { page.new ≡ joined page.old descriptor.now }
@@ -26,9 +29,7 @@ pub fn clear(descriptor: &mut [u8])
     ensures { descriptor.new ≡ cleared descriptor.old }
 {
     let byte = byte_at(descriptor, OUTSTANDING);
-    set_long(descriptor, 0, 0);
-    set_long(descriptor, 8, 0);
-    set_long(descriptor, 16, 0);
-    set_long(descriptor, 24, 0);
+    let bits = descriptor.len().min(REQUESTS);
+    descriptor[..bits].fill(0);
     set_byte(descriptor, OUTSTANDING, byte / 2 * 2);
 }

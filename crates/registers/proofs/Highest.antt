@@ -1,6 +1,6 @@
 -- The search for the highest set place: a word's by its leading zeros, word by word down a row of 256 bits; the words of a register.
 -- Assumes nothing.
-use Rattle.std.specs.Prelude.{Option, None, Some, IfNone, IfSome, if◌then◌else◌}
+use Rattle.std.specs.Prelude.{Option, Some, if◌then◌else◌}
 use Prim.Native.Nat.{ℕ, zero, suc, ◌+◌, ◌-◌, ◌*◌, ◌/◌, ◌%◌, ◌^◌, ◌<◌, ◌≤◌}
 use native.Mathlib.Nat.{not-suc-le-zero, le_refl, zero-add, add-zero, add-suc, mul_comm, sub-add_cancel, pow-succ', le-div_iff_mul-le, div-lt_iff_lt-mul}
 use native.Mathlib.Omega.{arith}
@@ -9,10 +9,10 @@ use mathlib.Core.Bool.{Bool, true, false}
 use mathlib.Core.List.{List}
 use lib.Count.{count_leading_zeros, leading_unique}
 use lib.Pow.{pow_pos}
-use borrow.Author.Tests.{eqb-true, eqb-false}
+use borrow.Author.Tests.{eqb-true, eqb-false, ne_eqb}
 use Rattle.processor.specs.Logic.{bit}
 use Rattle.page.specs.Page.{byte_at, word_at}
-use Rattle.registers.specs.Vectors.{is_set, highest_of, highest_set, word_bits, highest_bit, counted}
+use Rattle.registers.specs.Vectors.{is_set, highest_of, highest_set, word_bits, found_at, Places, highest_bit}
 use Rattle.registers.proofs.Top.{found-ext}
 use Rattle.registers.proofs.Words.{vector-in-word}
 
@@ -65,23 +65,9 @@ leading-highest word n h =
     rest : (zeros high : ℕ) → high ≤ n → n - high ≡ zeros → n - zeros ≡ high
     rest zeros high l e = omega arith
 
--- and its logarithm, which is none of 0
-pub log-highest : (word : ℕ) (found : Option ℕ) → word < 2 ^ 32 → IfNone found (word ≡ 0) → IfSome found (λ k. 2 ^ k ≤ word) → IfSome found (λ k. word < 2 * 2 ^ k) → IfSome found (λ k. k < 32) → counted found ≡ highest_bit word 32
-unfolding highest_bit
-log-highest word None fits z l h b = sym (ap (λ w. highest_bit w 32) z)
-log-highest word (Some k) fits z l h b =
-    back (count_leading_zeros 32 word) b (leading_unique 32 word (32 - suc k) (suc k) (sub-add_cancel b) (rw (pow-succ' 2 k) h) (rw (pow-succ' 2 k) (double l)))
-    ∙ leading-highest word 32 fits
-  where
-    double : 2 ^ k ≤ word → 2 * 2 ^ k ≤ 2 * word + 1
-    double l = omega arith
-
-    back : (lead : ℕ) → k < 32 → 32 - suc k ≡ lead → suc k ≡ 32 - lead
-    back lead b e = omega arith
-
 -- ---- down a row of 256 bits that stands in words, from word `left`
 -- the search of m places and n more above them, by the highest of those n
-abbrev pub after : (ℕ → Bool) → ℕ → ℕ → Option ℕ
+abbrev after : (ℕ → Bool) → ℕ → ℕ → Option ℕ
 after f m zero = highest_of f m
 after f m (suc k) = Some (m + k)
 
@@ -94,29 +80,50 @@ block f word m (suc k) h = ap (λ x. highest_of f x) (add-suc m k) ∙ by (bit w
     by true e ih = simp e
     by false e ih = simp e ih
 
--- what a word's search says, where nothing above the word is set
-pub word-found : (p : List ℕ) (step left : ℕ) (found : Option ℕ) → 0 < left → highest_of (word_bits p step) 256 ≡ highest_of (word_bits p step) (32 * left) → counted found ≡ highest_bit (word_at p (step * (left - 1))) 32 → highest_of (word_bits p step) 256 ≡ after (word_bits p step) (32 * (left - 1)) (counted found)
-word-found p step left found some rest e =
-    rest
-    ∙ ap (λ n. highest_of (word_bits p step) n) down
-    ∙ block (word_bits p step) (word_at p (step * (left - 1))) (32 * (left - 1)) 32 (λ k h. simp (row (left - 1) k h, column (left - 1) k h))
-    ∙ ap (λ n. after (word_bits p step) (32 * (left - 1)) n) (sym e)
-  where
-    down : 32 * left ≡ 32 * (left - 1) + 32
-    down = omega arith
+module _ (f : ℕ → Bool) (word left : ℕ) (at-bit : (k : ℕ) → k < 32 → f (32 * (left - 1) + k) ≡ bit word k) (some : 0 < left) (most : left ≤ 8) (rest : highest_of f 256 ≡ highest_of f (32 * left)) where
+  by_word : highest_of f 256 ≡ after f (32 * (left - 1)) (highest_bit word 32)
+  by_word = rest ∙ ap (λ x. highest_of f x) down ∙ block f word (32 * (left - 1)) 32 at-bit
+    where
+      down : 32 * left ≡ 32 * (left - 1) + 32
+      down = omega arith
 
-    row : (j k : ℕ) → k < 32 → (32 * j + k) / 32 ≡ j
-    row j k h = omega arith
+  pub word-found : (found : ℕ) → found ≡ highest_bit word 32 → 0 < found → Places f (32 * (left - 1) + found - 1)
+  word-found zero e h = absurd (not-suc-le-zero h)
+  word-found (suc k) e h = record { within = within (bit-most word 32); found = is-vector ∙ sym (by_word ∙ ap (λ x. after f (32 * (left - 1)) x) (sym e)) }
+    where
+      within : highest_bit word 32 ≤ 32 → 32 * (left - 1) + suc k - 1 ≤ 256
+      within l = omega arith
 
-    column : (j k : ℕ) → k < 32 → (32 * j + k) % 32 ≡ k
-    column j k h = omega arith
+      below : highest_bit word 32 ≤ 32 → 32 * (left - 1) + suc k - 1 ≡ 256 → ⊥
+      below l q = omega arith
+
+      place : 32 * (left - 1) + suc k - 1 ≡ 32 * (left - 1) + k
+      place = omega arith
+
+      is-vector : found_at (32 * (left - 1) + suc k - 1) ≡ Some (32 * (left - 1) + k)
+      is-vector = simp (ne_eqb _ _ (below (bit-most word 32))) (ap (λ x. Some x) place)
+
+  pub word_next : (found : ℕ) → found ≡ highest_bit word 32 → found ≤ 0 → highest_of f 256 ≡ highest_of f (32 * (left - 1))
+  word_next zero e h = by_word ∙ ap (λ x. after f (32 * (left - 1)) x) (sym e)
+  word_next (suc k) e h = absurd (not-suc-le-zero h)
 
 -- after the last word nothing is left
-pub words-over : (f : ℕ → Bool) (left : ℕ) → left ≤ 0 → highest_of f 256 ≡ highest_of f (32 * left) → None ≡ highest_of f 256
+pub words-over : (f : ℕ → Bool) (left : ℕ) → left ≤ 0 → highest_of f 256 ≡ highest_of f (32 * left) → Places f 256
 unfolding highest_of
-words-over f zero h e = sym e
+words-over f zero h e = record { within = le_refl 256; found = sym e }
 words-over f (suc n) h e = absurd (not-suc-le-zero h)
 
--- ---- a register that the slice starts with
+-- ---- rows that stand in words
+-- a bit of one of the words
+pub row-bit : (p : List ℕ) (step left k : ℕ) → k < 32 → word_bits p step (32 * (left - 1) + k) ≡ bit (word_at p (step * (left - 1))) k
+row-bit p step left k h = simp (row (left - 1) k h, column (left - 1) k h)
+  where
+    row : (a k : ℕ) → k < 32 → (32 * a + k) / 32 ≡ a
+    row a k h = omega arith
+
+    column : (a k : ℕ) → k < 32 → (32 * a + k) % 32 ≡ k
+    column a k h = omega arith
+
+-- a register that the slice starts with
 pub register-words : (p : List ℕ) → ((i : ℕ) → byte_at p i < 256) → highest_of (word_bits p 16) 256 ≡ highest_set p 0
 register-words p bytes = found-ext (word_bits p 16) (is_set p 0) 256 (λ v l. sym (vector-in-word p 0 v bytes ∙ ap (λ x. bit (word_at p x) (v % 32)) (zero-add (v / 32 * 16) ∙ mul_comm (v / 32) 16)))

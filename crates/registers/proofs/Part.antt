@@ -1,6 +1,5 @@
 -- The part of a page from a base on: a byte changed in it is that byte changed in the page, also where the part is too short to have
 -- it, and a register that it starts with is the page's at that base. Assumes nothing.
-use Rattle.std.specs.Prelude.{None}
 use Prim.Native.Nat.{ℕ, ◌+◌, ◌-◌, ◌≤◌, ◌<◌}
 use native.Mathlib.Nat.{le_refl, zero-add}
 use native.Mathlib.Omega.{arith}
@@ -8,7 +7,7 @@ use mathlib.Core.Path.{◌≡◌, refl, sym, ◌∙◌, ap}
 use mathlib.Core.Bool.{Bool, true, false}
 use mathlib.Core.List.{List}
 use lib.Dec.{ltb}
-use lib.ListN.{length, get_or, set, drop, length-drop, drop_of_length-le}
+use lib.ListN.{length, get_or, set, drop, length-drop}
 use lib.Seq.{set_out, take_all, get_or-drop}
 use borrow.Author.Tests.{ltb-true, ltb-false}
 use borrow.Rule.Slice.PartMut.{mid_of, put_mid, mid_len, put_same, set_mid_at}
@@ -53,8 +52,3 @@ module _ (p : List ℕ) (base : ℕ) where
   -- word by word too
   pub words-part : ((i : ℕ) → byte_at p i < 256) → highest_of (word_bits part 16) 256 ≡ highest_set p base
   words-part bytes = register-words part (λ i. rw part-byte (bytes (base + i))) ∙ found_part
-
-  -- past the page's end nothing is set
-  pub found-past : length p ≤ base → None ≡ highest_set p base
-  unfolding is_set highest_of
-  found-past h = ap (λ q. highest_set q 0) (sym (part-all ∙ drop_of_length-le p h)) ∙ found_part

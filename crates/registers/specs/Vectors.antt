@@ -58,16 +58,16 @@ highest p base = unwrap_or (highest_set p base) 0
 abbrev pub word_bits : List ℕ → ℕ → ℕ → Bool
 word_bits p step v = bit (word_at p (step * (v / 32))) (v % 32)
 
--- a word's highest set bit below bit n, counted from 1; 0 where none is set
+-- what its number says: none at 256, past every vector; else the vector
+abbrev pub found_at : ℕ → Option ℕ
+found_at place = if eqb place 256 then None else Some place
+
+-- a number that says what is found in a row of 256 bits
+pub record Places (f : ℕ → Bool) (place : ℕ) : Type 0 where
+  pub within : place ≤ 256
+  pub found : found_at place ≡ highest_of f 256
+
+-- what it asks of a word: its highest set bit below bit n, counted from 1; 0 where none is set
 unfoldable pub highest_bit : ℕ → ℕ → ℕ
 highest_bit word zero = 0
 highest_bit word (suc k) = if bit word k then suc k else highest_bit word k
-
--- a place that is found, counted from 1; 0 where none is
-abbrev pub counted : Option ℕ → ℕ
-counted None = 0
-counted (Some place) = suc place
-
--- what a number says is found: none at 256, past every vector; else the vector
-abbrev pub found_at : ℕ → Option ℕ
-found_at place = if eqb place 256 then None else Some place

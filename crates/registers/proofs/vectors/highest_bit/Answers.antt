@@ -1,6 +1,6 @@
--- A word's highest set bit is its logarithm.
-use Rattle.registers.proofs.Highest.{log-highest}
+-- Above a word's highest set bit stand its leading zeros.
+use Rattle.registers.proofs.Highest.{leading-highest}
 use Rattle.registers.proofs.vectors.highest_bit.Goals as goal
 
-pub returns : goal.returns
-returns c = log-highest c.args.word c.checked_ilog2.result c.ranges.word.fits c.checked_ilog2.ensures.none c.checked_ilog2.ensures.power_le c.checked_ilog2.ensures.next_power_gt c.checked_ilog2.ensures.bound
+pub returns-clause-counted : goal.returns-clause-counted
+returns-clause-counted c = leading-highest c.args.word 32 c.ranges.word.fits
