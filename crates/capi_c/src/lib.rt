@@ -1,4 +1,5 @@
-// The boundary that a C simulator links: the functions of `capi`, exported under their names with their promises.
+// The boundary that a C simulator links: the functions of `capi`, exported under their names with their promises:
+// an export stands in a crate that is an archive, and a proof of one crate cites the functions of another.
 #![tactic(auto)]
 
 ghost use Rattle.std.specs.Prelude.{List, ℕ};

@@ -4,7 +4,7 @@ ghost use Rattle.events.specs.Answers.{refusal_number, refusal_check, refusal_nu
 
 use processor::controls::Record;
 
-// Why an input is refused; refusal 4 says which entry check fails.
+// Why an input is refused; refusal 4 says which entry check fails, by the number that alone names it in document 01.
 #[derive(Clone, Copy)]
 pub enum Refusal {
     PageLength,
@@ -46,6 +46,7 @@ pub enum Answer {
     Redirected(u64),
     Passthrough,
     Fault,
+    // By the reason's number, as document 01 and the definitions say it; `numbers_of-one-to-one` holds of every number.
     Exit { reason: u32, qualification: u64 },
     Delivered(u8),
     Quiet,
@@ -57,7 +58,7 @@ pub struct Outcome {
     pub record: Record,
 }
 
-// An answer's number and its two values.
+// An answer's number and its two values, as C and a replay's lines have them.
 #[derive(Clone, Copy)]
 pub struct Numbers {
     pub answer: u32,

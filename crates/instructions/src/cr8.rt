@@ -24,6 +24,8 @@ fn cr8_access(c: Controls, exiting: Control) -> Access
     Access::Redirected
 }
 
+// To CR8 and from CR8 are `cr8_access` at one control each, and `cr8_qualification` at one number, by the names of the definitions: a
+// parameter in their place would move the two into each caller.
 pub fn to_cr8(c: Controls) -> Access
     ensures { result ≡ to_cr8 c }
 {

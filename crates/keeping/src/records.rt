@@ -25,7 +25,7 @@ fn record_bytes(bytes: &mut [u8], state: Record)
     controls_bytes(bytes, state.controls);
 }
 
-// Answers 0 to 3 change nothing; an exit, a delivery and quiet store the record.
+// An answer by its number: `keep` and `keep_status` promise what the bytes become for each. Answers 0 to 3 change nothing; an exit, a delivery and quiet store the record.
 fn stays(answer: u32) -> bool
     ensures { result ≡ ltb answer 4 }
 {

@@ -1,4 +1,5 @@
-// The model: one input at a time on a lent page.
+// The model: one input at a time on a lent page. Page and record go side by side through every function: C lends the two apart, the core
+// takes the record by value, and a guest that leaves brings no page.
 #![tactic(auto, unfolding(events::specs::Events::allowed, events::specs::Events::event_in_bounds, events::specs::Events::root_only, meaning::specs::External::descriptor_by, meaning::specs::Leave::left, meaning::specs::Refusals::refusal_of, meaning::specs::Step::carried_out, meaning::specs::Step::descriptor_after, meaning::specs::Step::event_out, meaning::specs::Step::step, meaning::specs::Step::step_by))]
 
 ghost use Rattle.meaning.specs.After.{Leaves};

@@ -43,6 +43,7 @@ pub fn byte_at(page: &[u8], offset: u16) -> u8
     byte_from(page, offset as usize)
 }
 
+// A line for each width over `bytes_at`, and over `bytes_within`: a trait of the widths would have the same lines in its impls.
 pub fn half_at(page: &[u8], offset: u16) -> u16
     ensures { result ≡ half_at page.now offset }
 {

@@ -14,7 +14,7 @@ use trace::bodies::{size_fits, version_fits};
 use trace::fields::two_at;
 use trace::kinds::length_of_kind;
 
-// Turns as long as the replay goes on; the number of records left falls with each.
+// Turns as long as the replay goes on. The number of records left falls with each, the form that document 01 names; no index is counted.
 fn turns(page: &mut [u8], trace: &[u8], limit: u32, out: &mut [u8]) -> Turn
     requires { length trace.now ≤ 61440 }
     ensures { Ended trace.now limit page.old out.old result page.new out.new }

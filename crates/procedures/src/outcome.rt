@@ -1,4 +1,5 @@
-// An answer with its record, on whatever page.
+// An answer with its record, on whatever page: a function for each definition of `After`, by its name. One function over the answer would
+// be a pair of words at each call for these.
 ghost use Rattle.std.specs.Prelude.{ℕ, List};
 ghost use Rattle.meaning.specs.After.{Leaves, redirected as redirected_of, passthrough as passthrough_of, fault as fault_of, exit as exit_of, delivered as delivered_of, quiet as quiet_of};
 

@@ -62,7 +62,7 @@ pub struct Record {
 }
 
 impl Controls {
-    // The control of a bit is on, whatever its number; bits count mod 32.
+    // The control of a bit is on; bits count mod 32. It answers for every number, so that it takes no `Control`.
     pub fn is_on(self, control: u8) -> bool
         ensures { result ≡ is_on self (control % 32) }
     {

@@ -39,6 +39,7 @@ pub fn set_byte(page: &mut [u8], offset: u16, value: u8)
     set_byte_from(page, offset as usize, value);
 }
 
+// A line for each width over `set_bytes`: a trait of the widths would have the same lines in its impls.
 pub fn set_half(page: &mut [u8], offset: u16, value: u16)
     ensures { page.new ≡ set_half page.old offset value }
 {

@@ -11,6 +11,7 @@ pub fn has(bytes: &[u8], at: usize, n: usize) -> bool
     at.checked_add(n).is_some_and(|end| end <= bytes.len())
 }
 
+// A line for each width over `bytes_within`: a trait of the widths would have the same lines in its impls.
 pub fn two_at(bytes: &[u8], at: usize) -> u16
     ensures { result ≡ two_at bytes.now at }
 {

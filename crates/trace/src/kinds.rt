@@ -17,7 +17,7 @@ pub const MEMORY_FLAGS: u16 = 4;
 
 pub const BOUNDARY_FLAGS: u16 = 1;
 
-// What a record is of: the controls for later entries, or an event of a kind.
+// What a record is of: the controls for later entries, or an event of a kind. No Option: records of controls have a length and flags too.
 #[derive(Clone, Copy, Debug, PartialEq, Eq)]
 pub enum RecordKind {
     Controls,
@@ -58,7 +58,7 @@ impl RecordKind {
     }
 }
 
-// The length of a kind's body, 0 of an unknown kind.
+// The length of a kind's body, 0 of an unknown kind: it answers for every number.
 pub fn length_of_kind(kind: u8) -> usize
     ensures { result ≡ length_of_kind kind }
 {
