@@ -15,13 +15,13 @@ pub returns-in-Some : goal.returns-in-Some
 returns-in-Some g c =
     rw c.from-in-Some.ensures
     (word-found _ _ c.loop-word.word (row-bit c.args.words.now g.row.STEP c.loop-word.word)
-    c.loop-word-test.true c.loop-word.auto.word c.loop-word.invariant
+    c.loop-word-test.true (omega (arith, c.loop-word.auto.word)) c.loop-word.invariant
     c.in-Some.place (c.in-Some.ensures.counted ∙ asked g (goal.at.returns-in-Some g c).After-highest_bit) c.in-Some.ensures.some)
 
 pub loop-word-preserved : goal.loop-word-preserved
 loop-word-preserved g c =
     word_next _ _ c.loop-word.word (row-bit c.args.words.now g.row.STEP c.loop-word.word)
-    c.loop-word-test.true c.loop-word.auto.word c.loop-word.invariant
+    c.loop-word-test.true (omega (arith, c.loop-word.auto.word)) c.loop-word.invariant
     0 (c.in_default.ensures.counted ∙ asked g (goal.at.loop-word-preserved g c).After-highest_bit) (omega arith)
 
 pub returns : goal.returns
