@@ -7,7 +7,6 @@ use events::answer::Outcome;
 use priorities::procedures::{low_cleared, open_boundary};
 use procedures::delivery::delivered_record;
 use procedures::outcome::{delivered, exit, quiet};
-use processor::boundary::Between;
 use processor::controls::{Control, Record};
 use processor::offsets::{VIRR, VISR, VPPR};
 use setting::put_vector;
@@ -42,8 +41,19 @@ fn boundary_at(page: &mut [u8], record: Record, is_open: bool) -> Outcome
     quiet(record)
 }
 
-pub fn boundary(page: &mut [u8], record: Record, at: Between) -> Outcome
-    ensures { Leaves (boundary_of page.old «record» at.interrupts at.sti at.mov_ss at.activity) result page.new }
+pub fn boundary(
+    page: &mut [u8],
+    record: Record,
+    interrupts: bool,
+    sti: bool,
+    mov_ss: bool,
+    activity: u8,
+) -> Outcome
+    ensures { Leaves (boundary_of page.old «record» interrupts sti mov_ss activity) result page.new }
 {
-    boundary_at(page, record, open_boundary(at))
+    boundary_at(
+        page,
+        record,
+        open_boundary(interrupts, sti, mov_ss, activity),
+    )
 }

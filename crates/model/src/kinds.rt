@@ -1,5 +1,6 @@
 // A function for each kind of event: its refusal, or what carries it out.
 ghost use Rattle.events.specs.declared.event.Event.TheVariants.{Entry, Request, MemoryRead, MemoryWrite, ToCr8, FromCr8, Rdmsr, Wrmsr, Boundary};
+ghost use Rattle.processor.specs.Access.{between};
 ghost use Rattle.meaning.specs.After.{Leaves};
 ghost use Rattle.meaning.specs.Input.{given};
 ghost use Rattle.meaning.specs.Step.{step as step_of};
@@ -14,7 +15,6 @@ use events::bounds::{
 use handlers::{cr8, memory, msr};
 use page::bytes::byte_at;
 use processor::access::MemoryAccess;
-use processor::boundary::Between;
 use processor::controls::{Controls, Record};
 use processor::offsets::VTPR;
 use refusals::list::{guest_refusal, root_refusal};
@@ -105,12 +105,19 @@ pub fn wrmsr(page: &mut [u8], record: Record, index: u32, value: u64) -> Outcome
     }
 }
 
-pub fn boundary(page: &mut [u8], record: Record, at: Between) -> Outcome
-    ensures { Leaves (step_of page.old «record» (given (Boundary at))) result page.new }
+pub fn boundary(
+    page: &mut [u8],
+    record: Record,
+    interrupts: bool,
+    sti: bool,
+    mov_ss: bool,
+    activity: u8,
+) -> Outcome
+    ensures { Leaves (step_of page.old «record» (given (Boundary (between interrupts sti mov_ss activity)))) result page.new }
 {
-    let refusal = guest_refusal(page, record, at.activity < ACTIVITIES);
+    let refusal = guest_refusal(page, record, activity < ACTIVITIES);
     match refusal {
-        Ok(()) => boundary::boundary(page, record, at),
+        Ok(()) => boundary::boundary(page, record, interrupts, sti, mov_ss, activity),
         Err(refusal) => refused(record, refusal),
     }
 }

@@ -34,7 +34,14 @@ pub fn step(page: &mut [u8], record: Record, event: Event) -> Outcome
         Event::FromCr8(register) => kinds::from_cr8(page, record, register),
         Event::Rdmsr(index) => kinds::rdmsr(page, record, index),
         Event::Wrmsr { index, value } => kinds::wrmsr(page, record, index, value),
-        Event::Boundary(at) => kinds::boundary(page, record, at),
+        Event::Boundary(at) => kinds::boundary(
+            page,
+            record,
+            at.interrupts,
+            at.sti,
+            at.mov_ss,
+            at.activity,
+        ),
     }
 }
 

@@ -3,7 +3,6 @@ ghost use Rattle.std.specs.Prelude.{◌≡◌};
 ghost use Rattle.processor.specs.Logic.{larger};
 ghost use Rattle.priorities.specs.Priorities.{class, low_cleared, ppr, below_threshold, evaluated, open_boundary};
 
-use processor::boundary::Between;
 use processor::controls::{Control, Controls};
 
 // A vector's class.
@@ -51,9 +50,10 @@ pub fn larger_of(rvi: u8, vector: u8) -> u8
     rvi.max(vector)
 }
 
-// The boundary is open.
-pub fn open_boundary(at: Between) -> bool
-    ensures { result ≡ open_boundary at.interrupts at.sti at.mov_ss at.activity }
+// The boundary is open. Its four values go side by side: as a `Between` by value they are packed into one number, and a boundary takes
+// three instructions more; lent, eight.
+pub fn open_boundary(interrupts: bool, sti: bool, mov_ss: bool, activity: u8) -> bool
+    ensures { result ≡ open_boundary interrupts sti mov_ss activity }
 {
-    at.interrupts & !at.sti & !at.mov_ss & (at.activity < 2)
+    interrupts & !sti & !mov_ss & (activity < 2)
 }

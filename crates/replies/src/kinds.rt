@@ -16,7 +16,6 @@ use model::kinds::{
 };
 use page::bytes::{byte_at, long_within, word_within};
 use processor::access::MemoryAccess;
-use processor::boundary::Between;
 
 // An entry.
 fn entry_reply(page: &mut [u8], record: &mut [u8; 48], event: &[u8]) -> Numbers
@@ -123,13 +122,14 @@ fn boundary_reply(page: &mut [u8], record: &mut [u8; 48], event: &[u8]) -> Numbe
     if 8 <= flags {
         return Refusal::Bounds.into();
     }
-    let at = Between {
-        interrupts: is_set(flags, 0),
-        sti: is_set(flags, 1),
-        mov_ss: is_set(flags, 2),
-        activity: byte_at(event, DETAIL),
-    };
-    let outcome = boundary(page, record_of(record), at);
+    let outcome = boundary(
+        page,
+        record_of(record),
+        is_set(flags, 0),
+        is_set(flags, 1),
+        is_set(flags, 2),
+        byte_at(event, DETAIL),
+    );
     told_status(record, outcome)
 }
 

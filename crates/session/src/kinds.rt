@@ -1,11 +1,13 @@
 // The event of each kind of record, its fields read from the body, carried out by the model.
-ghost use Rattle.std.specs.Prelude.{◌≡◌};
+ghost use Rattle.std.specs.Prelude.{◌≡◌, false, eqb};
+ghost use Rattle.processor.specs.declared.controls.Controls.{Controls};
 ghost use Rattle.events.specs.declared.event.Event.TheVariants.{FromCr8, Rdmsr, Request};
 ghost use Rattle.meaning.specs.After.{Leaves};
 ghost use Rattle.meaning.specs.Input.{given};
 ghost use Rattle.meaning.specs.Step.{step as step_of};
 ghost use Rattle.page.specs.Page.{byte_at};
 ghost use Rattle.trace.specs.Fields.{four_at};
+ghost use Rattle.trace.specs.Format.{kind_of};
 ghost use Rattle.trace.specs.Records.{access_of, memory_read_of, memory_write_of, to_cr8_of, wrmsr_of, boundary_of, event_of};
 
 use events::answer::Outcome;
@@ -13,8 +15,7 @@ use events::kind::{Kind, is_set};
 use model::kinds;
 use page::bytes::byte_at;
 use processor::access::MemoryAccess;
-use processor::boundary::Between;
-use processor::controls::{Controls, Record};
+use processor::controls::Record;
 use trace::fields::{eight_at, four_at, two_at};
 use trace::kinds::{BOUNDARY_FLAGS, KIND, MEMORY_FLAGS};
 
@@ -71,13 +72,14 @@ fn boundary(page: &mut [u8], record: Record, body: &[u8]) -> Outcome
     ensures { Leaves (step_of page.old «record» (given (boundary_of body.now))) result page.new }
 {
     let flags = byte_at(body, BOUNDARY_FLAGS);
-    let at = Between {
-        interrupts: is_set(flags, 0),
-        sti: is_set(flags, 1),
-        mov_ss: is_set(flags, 2),
-        activity: byte_at(body, 2),
-    };
-    kinds::boundary(page, record, at)
+    kinds::boundary(
+        page,
+        record,
+        is_set(flags, 0),
+        is_set(flags, 1),
+        is_set(flags, 2),
+        byte_at(body, 2),
+    )
 }
 
 fn request(page: &mut [u8], record: Record, body: &[u8]) -> Outcome
@@ -86,13 +88,11 @@ fn request(page: &mut [u8], record: Record, body: &[u8]) -> Outcome
     kinds::request(page, record, byte_at(body, 1) as u16)
 }
 
-// The event of a record, which brings the controls for later entries where it is an entry. A record of no event's kind, which a replay
-// doesn't carry out, is taken for a request.
-pub fn event_outcome(page: &mut [u8], record: Record, controls: Controls, body: &[u8]) -> Outcome
-    ensures { Leaves (step_of page.old «record» (given (event_of controls body.now))) result page.new }
+// The event of a record of any kind but 0 and 1. A record of no other kind, which a replay doesn't carry out here, is taken for a request.
+pub fn event_outcome(page: &mut [u8], record: Record, body: &[u8]) -> Outcome
+    ensures { eqb (kind_of body.now) 1 ≡ false → (c : Controls) → Leaves (step_of page.old «record» (given (event_of c body.now))) result page.new }
 {
     match Kind::try_from(byte_at(body, KIND)) {
-        Ok(Kind::Entry) => kinds::entry(page, record, controls),
         Ok(Kind::MemoryRead) => memory_read(page, record, body),
         Ok(Kind::MemoryWrite) => memory_write(page, record, body),
         Ok(Kind::ToCr8) => to_cr8(page, record, body),
@@ -100,6 +100,6 @@ pub fn event_outcome(page: &mut [u8], record: Record, controls: Controls, body: 
         Ok(Kind::Rdmsr) => rdmsr(page, record, body),
         Ok(Kind::Wrmsr) => wrmsr(page, record, body),
         Ok(Kind::Boundary) => boundary(page, record, body),
-        Ok(Kind::Request) | Err(_) => request(page, record, body),
+        Ok(Kind::Request | Kind::Entry) | Err(_) => request(page, record, body),
     }
 }

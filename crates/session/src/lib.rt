@@ -1,13 +1,16 @@
 // One record of a trace, carried out on a lent page.
 #![tactic(auto, using(crate::proofs::Tell::one_digit), unfolding(recorded::specs::Session::answer_to, recorded::specs::Session::session_after, trace::specs::Records::boundary_of, trace::specs::Records::event_of, trace::specs::Records::memory_read_of, trace::specs::Records::memory_write_of, trace::specs::Records::to_cr8_of, trace::specs::Records::wrmsr_of))]
 
-ghost use Rattle.session.specs.Told.{Begins, ControlsTold, Tells, session_of};
+ghost use Rattle.processor.specs.Controls.{with_controls};
+ghost use Rattle.session.specs.Told.{Begins, ControlsTold, EntryTold, Tells, session_of};
 ghost use Rattle.trace.specs.Format.{kind_of};
 ghost use Rattle.std.specs.Prelude.{eqb, false, ◌≡◌};
 
 use crate::kinds::event_outcome;
 use events::answer::{Answer, Numbers};
+use events::kind::Kind;
 use model::fresh_record;
+use model::kinds::entry;
 use page::bytes::byte_at;
 use processor::controls::{Controls, Record};
 use trace::kinds::{KIND, RecordKind};
@@ -29,14 +32,42 @@ pub struct Told {
     pub state: State,
 }
 
+// The same controls, field by field: a copy carries the bytes between fields along, and a replayed entry takes more instructions by it.
+fn by_fields(controls: Controls) -> Controls
+    ensures { result ≡ controls }
+{
+    Controls {
+        flags: controls.flags,
+        threshold: controls.threshold,
+        notification: controls.notification,
+        eoi_exit_0: controls.eoi_exit_0,
+        eoi_exit_1: controls.eoi_exit_1,
+        eoi_exit_2: controls.eoi_exit_2,
+        eoi_exit_3: controls.eoi_exit_3,
+    }
+}
+
+// A record with controls, field by field too.
+fn with_controls(record: Record, controls: Controls) -> Record
+    ensures { result ≡ with_controls «record» controls }
+{
+    Record {
+        guest: record.guest,
+        rvi: record.rvi,
+        svi: record.svi,
+        recognised: record.recognised,
+        controls: by_fields(controls),
+    }
+}
+
 // A fresh record, and all controls zero.
 pub fn begin() -> State
     ensures { Begins result }
 {
-    let record = fresh_record();
+    let fresh = fresh_record();
     State {
-        record,
-        controls: record.controls,
+        record: with_controls(fresh, fresh.controls),
+        controls: by_fields(fresh.controls),
     }
 }
 
@@ -53,16 +84,30 @@ fn controls_told(state: State, body: &[u8]) -> Told
     }
 }
 
-// Every other kind: its event, which leaves the controls for later entries.
-fn event_told(page: &mut [u8], state: State, body: &[u8]) -> Told
-    ensures { eqb (kind_of body.now) 0 ≡ false → Tells (session_of page.old state) body.now result page.new }
+// Kind 1: an entry with the controls for later entries.
+fn entry_told(page: &mut [u8], state: State) -> Told
+    ensures { EntryTold page.old state result page.new }
 {
-    let outcome = event_outcome(page, state.record, state.controls, body);
+    let outcome = entry(page, state.record, by_fields(state.controls));
     Told {
         numbers: outcome.answer.into(),
         state: State {
-            record: outcome.record,
-            ..state
+            record: with_controls(outcome.record, outcome.record.controls),
+            controls: by_fields(state.controls),
+        },
+    }
+}
+
+// Every other kind: its event, which leaves the controls in force.
+fn event_told(page: &mut [u8], state: State, body: &[u8]) -> Told
+    ensures { eqb (kind_of body.now) 0 ≡ false → eqb (kind_of body.now) 1 ≡ false → Tells (session_of page.old state) body.now result page.new }
+{
+    let outcome = event_outcome(page, state.record, body);
+    Told {
+        numbers: outcome.answer.into(),
+        state: State {
+            record: with_controls(outcome.record, state.record.controls),
+            controls: by_fields(state.controls),
         },
     }
 }
@@ -73,6 +118,7 @@ pub fn carried_out(page: &mut [u8], state: State, body: &[u8]) -> Told
 {
     match RecordKind::try_from(byte_at(body, KIND)) {
         Ok(RecordKind::Controls) => controls_told(state, body),
+        Ok(RecordKind::Event(Kind::Entry)) => entry_told(page, state),
         _ => event_told(page, state, body),
     }
 }
