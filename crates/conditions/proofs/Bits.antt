@@ -1,7 +1,7 @@
 -- Condition 1 besides: a guest that leaves and is not refused has left, and where an external interrupt's answer is quiet no vector is posted
 -- and no notification outstanding in the descriptor that it leaves. Assumes nothing.
 use Rattle.std.specs.Prelude.{Ok, if◌then◌else◌}
-use Prim.Native.Nat.{ℕ, zero, suc, ◌-◌, ◌/◌, ◌%◌, ◌^◌, ◌≤◌, ◌<◌}
+use Prim.Native.Nat.{ℕ, zero, suc, ◌-◌, ◌/◌, ◌%◌, ◌^◌, ◌<◌}
 use native.Mathlib.Nat.{not-suc-le-zero, zero-div}
 use native.Mathlib.Omega.{arith}
 use mathlib.Core.Path.{◌≡◌, refl, ◌∙◌, ap}

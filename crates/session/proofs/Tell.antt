@@ -26,8 +26,7 @@ use Rattle.trace.specs.Format.{kind_of}
 use Rattle.trace.specs.Records.{memory_read_of, memory_write_of, to_cr8_of, wrmsr_of, boundary_of, event_of}
 use Rattle.recorded.specs.Session.{answer_to, session_after}
 use Rattle.session.specs.declared.State.{State}
-use Rattle.session.specs.declared.Told.{Told}
-use Rattle.session.specs.Told.{session_of, ControlsTold, EntryTold, Tells}
+use Rattle.session.specs.Told.{session_of, Tells}
 
 -- an answer's number has one digit
 pub one_digit : (a : Answer) → (numbers_of a).answer < 10
@@ -38,31 +37,6 @@ one_digit Fault = omega arith
 one_digit (Exit reason qualification) = omega arith
 one_digit (Delivered vector) = omega arith
 one_digit Quiet = omega arith
-
-pub tell-controls : (p : List ℕ) (s : State) (b : List ℕ) (r : Told) → eqb (kind_of b) 0 ≡ true → ControlsTold s b r → Tells (session_of p s) b r p
-unfolding answer_to session_after
-tell-controls p s b r e t = record {
-  answer = simp e t.answer;
-  session = simp (e, t.state, t.controls);
-  small = rw t.answer (omega arith);
-}
-
--- an entry's outcome
-pub entry-told : (p q : List ℕ) (s : State) (o : Outcome) (n : Numbers) → Leaves (step p s.«record» (given (Entry s.controls))) o q → n ≡ numbers_of o.answer → EntryTold p s (record { numbers = n; state = record { «record» = o.«record»; controls = s.controls } }) q
-entry-told p q s o n l m = record {
-  answer = m ∙ l.answer;
-  held = simp (l.state, l.page);
-  controls = refl;
-  small = rw m (one_digit o.answer);
-}
-
-pub tell-entry : (p q : List ℕ) (s : State) (b : List ℕ) (r : Told) → eqb (kind_of b) 0 ≡ false → eqb (kind_of b) 1 ≡ true → EntryTold p s r q → Tells (session_of p s) b r q
-unfolding answer_to session_after event_of
-tell-entry p q s b r z e t = record {
-  answer = simp (z, e) t.answer;
-  session = simp (z, e, t.held, t.controls);
-  small = t.small;
-}
 
 -- an entry alone brings controls of its own
 abbrev is_entry : Input → Bool
