@@ -41,6 +41,7 @@ fn boundary_at(page: &mut [u8], record: Record, is_open: bool) -> Outcome
     quiet(record)
 }
 
+// The four values go side by side for the instructions that `open_boundary` says.
 pub fn boundary(
     page: &mut [u8],
     record: Record,

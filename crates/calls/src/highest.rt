@@ -6,7 +6,8 @@ use events::answer::{Numbers, Refusal, numbered};
 use processor::offsets::{VIRR, VISR};
 use registers::vectors::highest_set;
 
-// What the search finds, in the numbers that `gg_highest` has for it in C: 1 a vector, 2 none.
+// What the search finds, in the numbers that `gg_highest` has for it in C: 1 a vector, 2 none. No `From`:
+// neither type is this crate's.
 fn found_numbers(found: Option<u8>) -> Numbers
     ensures { result ≡ found_numbers found }
 {

@@ -1,4 +1,5 @@
-// The boundary that a C program links to replay a recorded session: the function of `capi_replay`, exported under its name with its promise.
+// The boundary that a C program links to replay a recorded session: the function of `capi_replay`, exported under its name with its promise,
+// in a crate that is an archive.
 #![tactic(auto)]
 
 ghost use Rattle.playback.specs.Replays.{GgReplays};

@@ -31,7 +31,7 @@ pub enum Deed {
     Writing,
 }
 
-// By the number of arguments, the program's own name among them, and the first after it.
+// By the number of arguments, the program's own name among them, and the first after it, as the definition `asked_of` takes them.
 #[tactic(auto, using(crate::proofs::Laws::same_bytes_pointwise), unfolding(crate::specs::Command::asked_of))]
 pub fn asked_of(count: usize, first: &[u8]) -> Asked
     ensures { result ≡ asked_of count first.now }

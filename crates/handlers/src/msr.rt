@@ -1,4 +1,4 @@
-// RDMSR and WRMSR.
+// RDMSR and WRMSR. Index and value of a WRMSR are two numbers side by side, as document 01 writes them.
 ghost use Rattle.meaning.specs.After.{Leaves};
 ghost use Rattle.meaning.specs.Cr8Msr.{read_msr, write_msr_by, write_msr};
 

@@ -8,6 +8,7 @@ use layout::controls::{
 use processor::controls::Controls;
 use stores::bytes::{set_half, set_long, set_word};
 
+// Each field is stored at a place of its own.
 pub fn controls_bytes(bytes: &mut [u8], controls: Controls)
     ensures { bytes.new ≡ controls_bytes bytes.old controls }
 {

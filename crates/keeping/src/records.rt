@@ -25,7 +25,8 @@ fn record_bytes(bytes: &mut [u8], state: Record)
     controls_bytes(bytes, state.controls);
 }
 
-// An answer by its number: `keep` and `keep_status` promise what the bytes become for each. Answers 0 to 3 change nothing; an exit, a delivery and quiet store the record.
+// An answer by its number: `keep` and `keep_status` promise what the bytes become for each. Answers 0 to 3 change nothing; an exit, a
+// delivery and quiet store the record.
 fn stays(answer: u32) -> bool
     ensures { result ≡ ltb answer 4 }
 {
@@ -41,7 +42,7 @@ pub fn keep(bytes: &mut [u8], answer: u32, state: Record)
     }
 }
 
-// The same of all but the controls, which stay.
+// The same of all but the controls, which stay: the two differ in what they store, and a parameter for it would be a closure for two calls.
 pub fn keep_status(bytes: &mut [u8], answer: u32, state: Record)
     ensures { bytes.new ≡ kept_status bytes.old answer state }
 {

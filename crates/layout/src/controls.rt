@@ -19,6 +19,7 @@ pub const EOI_EXIT_2: u16 = 32;
 
 pub const EOI_EXIT_3: u16 = 40;
 
+// Each field is read at a place of its own.
 pub fn controls_of(bytes: &[u8]) -> Controls
     ensures { result ≡ controls_of bytes.now }
 {

@@ -1,13 +1,16 @@
-// A function for each kind of event: its refusal, or what carries it out.
+// A function for each kind of event: its refusal, or what carries it out. Each says the two cases itself: a closure for the second would
+// have to lend the page on.
 ghost use Rattle.events.specs.declared.event.Event.TheVariants.{Entry, Request, MemoryRead, MemoryWrite, ToCr8, FromCr8, Rdmsr, Wrmsr, Boundary};
 ghost use Rattle.processor.specs.Access.{between};
 ghost use Rattle.meaning.specs.After.{Leaves};
 ghost use Rattle.meaning.specs.Input.{given};
+ghost use Rattle.meaning.specs.Refusals.{refusal_of};
 ghost use Rattle.meaning.specs.Step.{step as step_of};
+ghost use Rattle.std.specs.Prelude.{◌≡◌};
 
 use crate::outcome::refused;
 use boundaries::{boundary, entry};
-use events::answer::Outcome;
+use events::answer::{Outcome, Refusal};
 use events::bounds::{
     ACTIVITIES, CR8_VALUES, REGISTERS, VECTORS, memory_read_in_bounds, memory_write_in_bounds,
     vector_in_bounds,
@@ -20,16 +23,21 @@ use processor::offsets::VTPR;
 use refusals::list::{guest_refusal, root_refusal};
 use rules::entry::failing_check;
 
+// The checks of an entry come last, and are made where nothing else refuses it.
+fn entry_refusal(page: &[u8], record: Record, controls: Controls) -> Result<(), Refusal>
+    ensures { result ≡ refusal_of page.now «record» (given (Entry controls)) }
+{
+    root_refusal(page, record, controls.flags_in_bounds(), None)?;
+    match failing_check(controls, byte_at(page, VTPR)) {
+        None => Ok(()),
+        Some(check) => Err(Refusal::EntryCheck(check)),
+    }
+}
+
 pub fn entry(page: &mut [u8], record: Record, controls: Controls) -> Outcome
     ensures { Leaves (step_of page.old «record» (given (Entry controls))) result page.new }
 {
-    let refusal = root_refusal(
-        page,
-        record,
-        controls.flags_in_bounds(),
-        failing_check(controls, byte_at(page, VTPR)),
-    );
-    match refusal {
+    match entry_refusal(page, record, controls) {
         Ok(()) => entry::entry(page, record, controls),
         Err(refusal) => refused(record, refusal),
     }
@@ -105,6 +113,7 @@ pub fn wrmsr(page: &mut [u8], record: Record, index: u32, value: u64) -> Outcome
     }
 }
 
+// The four values go side by side for the instructions that `open_boundary` says.
 pub fn boundary(
     page: &mut [u8],
     record: Record,

@@ -43,7 +43,7 @@ pub fn evaluates(c: Controls, rvi: u8, vppr: u8) -> bool
     !c.has(Control::InterruptWindowExiting) & (vppr / 16 < rvi / 16)
 }
 
-// The larger of RVI and a vector.
+// The larger of RVI and a vector, by the name that the claims of a request cite.
 pub fn larger_of(rvi: u8, vector: u8) -> u8
     ensures { result ≡ larger rvi vector }
 {

@@ -33,6 +33,7 @@ pub fn fault(record: Record) -> Outcome
     }
 }
 
+// By the reason's number, as the definition `exit` has it: its claim is of every number.
 pub fn exit(record: Record, reason: u32, qualification: u64) -> Outcome
     ensures { (p : List ℕ) → Leaves (exit_of reason qualification p «record») result p }
 {

@@ -39,8 +39,8 @@ impl Control {
     }
 }
 
-// The EOI-exit bits stand in four fields: the theorems of `keeping` and the rows speak of every `Controls`, and an array is in them a list
-// of any length.
+// The EOI-exit bits stand in four fields: `stored-over` of keeping/proofs/RoundTrip.antt holds of every `Controls`, and an array is in it a
+// list of any length.
 #[derive(Clone, Copy, Default)]
 pub struct Controls {
     pub flags: u32,

@@ -22,7 +22,7 @@ fn printed(trace: &[u8], out: &mut [u8; ROOM]) -> usize
     replay(trace, LIMIT, out).unwrap().end as usize
 }
 
-// The text of an input, of which the first bytes of an array are so many, or all of it.
+// The text of an input, of which the first bytes of an array are so many, or all of it: array and number, as `PrintsHeld` speaks of them.
 pub fn replay_program(input: &[u8; READ], length: usize, out: &mut [u8; ROOM]) -> usize
     ensures { PrintsHeld input.now length out.old result out.new }
 {

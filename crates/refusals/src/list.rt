@@ -58,7 +58,7 @@ fn first_refusal(
     check_passed(check)
 }
 
-// Guest and root have a function each, since only a root event has a check.
+// Guest and root have a function each: one for both would take the mode that fits, and no check at each of seven calls.
 // Which refusal an event of guest mode gets whose own fields fit, or don't.
 pub fn guest_refusal(page: &[u8], record: Record, fits: bool) -> Result<(), Refusal>
     ensures { result ≡ first_refusal (eqb (length page.now) 4096) true (flags_in_bounds «record».controls && fits) «record».guest None }

@@ -10,7 +10,8 @@ pub const NONE_COUNTS_AS: u8 = 0;
 // The bytes from one word of a register to the next.
 const REGISTER_STEP: u8 = 16;
 
-// None inside the search is a number past every vector: with an Option there the mix of events takes 208.2 instructions for 207.8.
+// None inside the search is a number past every vector: with an Option there an event of near-empty registers takes 232.0 instructions for
+// 229.3.
 const NOWHERE: u32 = 256;
 
 // The highest set bit of a word, counted from 1, or none: what its leading zeros leave of its 32 bits.

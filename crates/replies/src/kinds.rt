@@ -68,7 +68,7 @@ fn memory_write_reply(page: &mut [u8], record: &mut [u8; 48], event: &[u8]) -> N
     told_status(record, outcome)
 }
 
-// MOV to CR8.
+// MOV to CR8. The test of the value is the definition's, and what passes it is its low byte.
 fn to_cr8_reply(page: &mut [u8], record: &mut [u8; 48], event: &[u8]) -> Numbers
     ensures { Replies (kind_reply (ltb (value_of event.now) 0x100) (to_cr8_of event.now) page.old «record».old) result.answer result.first result.second «record».new page.new }
 {
@@ -133,7 +133,7 @@ fn boundary_reply(page: &mut [u8], record: &mut [u8; 48], event: &[u8]) -> Numbe
     told_status(record, outcome)
 }
 
-// A request.
+// A request. The test of the number is the definition's, and what passes it is its low half.
 fn request_reply(page: &mut [u8], record: &mut [u8; 48], event: &[u8]) -> Numbers
     ensures { Replies (kind_reply (ltb (number_of event.now) 0x1_0000) (request_of event.now) page.old «record».old) result.answer result.first result.second «record».new page.new }
 {

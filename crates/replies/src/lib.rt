@@ -1,4 +1,4 @@
-// What a simulator's calls reply: a lent page, a record and an event as bytes, an answer as numbers.
+// What a simulator's calls reply: a lent page, a record and an event as bytes, an answer as numbers, each lent apart by C.
 #![tactic(auto, using(crate::proofs::Reply::same_controls), unfolding(crate::specs::Replies::external_reply, crate::specs::Replies::gg_external_interrupt, crate::specs::Replies::gg_leave, crate::specs::Replies::gg_step, crate::specs::Replies::kind_reply, crate::specs::Replies::leave_reply, crate::specs::Replies::model_reply, layout::specs::EventBytes::boundary_of, layout::specs::EventBytes::event_of, layout::specs::EventBytes::event_readable, layout::specs::EventBytes::memory_read_of, layout::specs::EventBytes::memory_write_of, layout::specs::EventBytes::request_of, layout::specs::EventBytes::to_cr8_of, layout::specs::EventBytes::wrmsr_of))]
 
 ghost use Rattle.std.specs.Prelude.{◌≡◌, List, ℕ};

@@ -15,7 +15,7 @@ pub fn told(record: &mut [u8; 48], outcome: Outcome) -> Numbers
     numbers
 }
 
-// The same of an outcome whose controls are those that the bytes hold.
+// The same of an outcome whose controls are those that the bytes hold; it differs in the function of `keeping` that it calls.
 pub fn told_status(record: &mut [u8; 48], outcome: Outcome) -> Numbers
     requires { outcome.«record».controls ≡ controls_of «record».old }
     ensures { Told outcome «record».old result «record».new }

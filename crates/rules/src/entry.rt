@@ -55,7 +55,7 @@ fn check_6(c: Controls, vtpr: u8) -> bool
     !c.has(Control::VirtualizeApicAccesses) & threshold_too_high(c, vtpr)
 }
 
-// The first failing check, or none.
+// The first failing check, or none: by its number, which alone names it in document 01.
 pub fn failing_check(c: Controls, vtpr: u8) -> Option<u8>
     ensures { result ≡ numbered (failing_check c vtpr) }
 {

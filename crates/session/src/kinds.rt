@@ -88,7 +88,7 @@ fn request(page: &mut [u8], record: Record, body: &[u8]) -> Outcome
     kinds::request(page, record, byte_at(body, 1) as u16)
 }
 
-// The event of a record of any kind but 0 and 1. A record of no other kind, which a replay doesn't carry out here, is taken for a request.
+// The event of a record of any kind but 0 and 1, which `carried_out` keeps apart; what is no kind is taken for a request, as in `event_of`.
 pub fn event_outcome(page: &mut [u8], record: Record, body: &[u8]) -> Outcome
     ensures { eqb (kind_of body.now) 1 ≡ false → (c : Controls) → Leaves (step_of page.old «record» (given (event_of c body.now))) result page.new }
 {

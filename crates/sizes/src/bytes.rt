@@ -5,7 +5,7 @@ ghost use Rattle.sizes.specs.Sizes.{read_at, store_at};
 use page::bytes::{byte_at, half_at, long_at, word_at};
 use stores::bytes::{set_byte, set_half, set_long, set_word};
 
-// The bytes of a read, by its size.
+// The bytes of a read, by its size, a number: what is claimed of 8 is claimed of every other.
 pub fn read_at(page: &[u8], offset: u16, size: u8) -> u64
     ensures { result ≡ read_at page.now offset size }
 {

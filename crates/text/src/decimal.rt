@@ -1,5 +1,6 @@
-// A character, and a number in decimal. Each function takes the buffer and the place, and hands back the new one: as a struct with
-// methods the place goes through memory, and a line takes 9 to 45 instructions more.
+// A character, and a number in decimal, by hand and not by `Display`: `Writes` says what stands in a buffer that is too short. Each
+// function takes the buffer and the place, and hands back the new one: as a struct with methods the place goes through memory, and a line
+// takes 9 to 45 instructions more.
 ghost use Rattle.std.specs.Prelude.{◌≤◌, ◌<◌, ◌+◌, ◌^◌, ◌≡◌, [], ◌∷◌, length};
 ghost use Rattle.text.specs.Decimal.{digit as digit_of, last_digits as last_digits_of, decimal as decimal_of};
 ghost use Rattle.text.specs.Lines.{field as field_of};

@@ -1,4 +1,5 @@
-// Big-endian fields of a slice, each 0 where the slice does not have it whole.
+// Big-endian fields of a slice, each 0 where the slice does not have it whole. Slice and place go side by side, the form that document 01
+// names for what `reader` is thin functions over.
 ghost use Rattle.std.specs.Prelude.{◌≡◌};
 ghost use Rattle.trace.specs.Fields.{has as has_of, two_at, four_at, eight_at};
 

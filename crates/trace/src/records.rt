@@ -6,6 +6,7 @@ use crate::fields::{eight_at, four_at, two_at};
 use crate::kinds::CONTROL_FLAGS;
 use processor::controls::Controls;
 
+// Each field is read at a place of its own.
 pub fn controls_of(body: &[u8]) -> Controls
     ensures { result ≡ controls_of body.now }
 {
