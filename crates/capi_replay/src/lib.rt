@@ -11,5 +11,5 @@ pub fn gg_replay(trace: &[u8], limit: u32, out: &mut [u8], written: &mut u64) ->
 {
     let text = replay(trace, limit, out);
     *written = text.map_or(0, |text| text.end);
-    u32::from(text.is_some())
+    text.is_some() as u32
 }
