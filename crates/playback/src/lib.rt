@@ -1,4 +1,4 @@
-// The replay of a trace into a lent buffer.
+// The replay of a trace into a lent buffer. Trace, limit and buffer go side by side, as C lends them.
 #![tactic(auto, unfolding(crate::specs::Replays::buffer_after, crate::specs::Replays::text_fits, crate::specs::Turns::goes_on, crate::specs::Turns::last_of, recorded::specs::Replay::is_trace))]
 
 ghost use Rattle.std.specs.Prelude.{◌≡◌, length};
