@@ -2,3 +2,4 @@ pub mod Laws
 pub mod Model
 pub mod Boundary
 pub mod Replay
+pub mod Parts

@@ -1,5 +1,5 @@
 // The kinds of events, and the numbers that stand for them in an event's bytes and in a trace's records.
-ghost use Rattle.std.specs.Prelude.{◌≡◌, ◌<◌};
+ghost use Rattle.std.specs.Prelude.{◌≡◌, ◌%◌};
 ghost use Rattle.processor.specs.Logic.{bit};
 ghost use Rattle.events.specs.Kinds.{Decodes};
 
@@ -43,10 +43,10 @@ impl TryFrom<u8> for Kind {
     }
 }
 
-// The bit of a byte of flags is set.
+// The bit of a byte of flags is set; bits count mod 8.
 pub fn is_set(flags: u8, at: u8) -> bool
-    requires { at < 8 }
-    ensures { result ≡ bit flags at }
+    ensures { result ≡ bit flags (at % 8) }
 {
+    let at = at % 8;
     (flags >> at) % 2 == 1
 }
