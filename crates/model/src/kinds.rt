@@ -4,35 +4,19 @@ ghost use Rattle.events.specs.declared.event.Event.TheVariants.{Entry, Request, 
 ghost use Rattle.processor.specs.Access.{between};
 ghost use Rattle.meaning.specs.After.{Leaves};
 ghost use Rattle.meaning.specs.Input.{given};
-ghost use Rattle.meaning.specs.Refusals.{refusal_of};
 ghost use Rattle.meaning.specs.Step.{step as step_of};
-ghost use Rattle.std.specs.Prelude.{◌≡◌};
 
 use crate::outcome::refused;
 use boundaries::{boundary, entry};
-use events::answer::{Outcome, Refusal};
+use events::answer::Outcome;
 use events::bounds::{
     ACTIVITIES, CR8_VALUES, REGISTERS, VECTORS, memory_read_in_bounds, memory_write_in_bounds,
     vector_in_bounds,
 };
 use handlers::{cr8, memory, msr};
-use page::bytes::byte_at;
 use processor::access::MemoryAccess;
 use processor::controls::{Controls, Record};
-use processor::offsets::VTPR;
-use refusals::list::{guest_refusal, root_refusal};
-use rules::entry::failing_check;
-
-// The checks of an entry come last, and are made where nothing else refuses it.
-fn entry_refusal(page: &[u8], record: Record, controls: Controls) -> Result<(), Refusal>
-    ensures { result ≡ refusal_of page.now «record» (given (Entry controls)) }
-{
-    root_refusal(page, record, controls.flags_in_bounds(), None)?;
-    match failing_check(controls, byte_at(page, VTPR)) {
-        None => Ok(()),
-        Some(check) => Err(Refusal::EntryCheck(check)),
-    }
-}
+use refusals::list::{entry_refusal, guest_refusal, root_refusal};
 
 pub fn entry(page: &mut [u8], record: Record, controls: Controls) -> Outcome
     ensures { Leaves (step_of page.old «record» (given (Entry controls))) result page.new }

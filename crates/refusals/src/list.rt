@@ -1,16 +1,19 @@
 // The ordered list of refusals, of an event, of an external interrupt and of a guest that leaves.
 ghost use Rattle.std.specs.Prelude.{◌≡◌, true, not, ◌&&◌, List, ℕ, eqb, length, Ok, Err, None, if◌then◌else◌};
 ghost use Rattle.processor.specs.Controls.{flags_in_bounds};
+ghost use Rattle.processor.specs.Offsets.{vtpr};
+ghost use Rattle.page.specs.Page.{byte_at};
+ghost use Rattle.events.specs.declared.event.Event.TheVariants.{Entry};
 ghost use Rattle.meaning.specs.Input.{given, external, leaves};
 ghost use Rattle.meaning.specs.Refusals.{event_check, check_passed, first_refusal, refusal_of};
-ghost use Rattle.rules.specs.EntryChecks.{numbered};
+ghost use Rattle.rules.specs.EntryChecks.{failing_check, numbered};
 
 use descriptor::posted::descriptor_fits;
 use events::answer::Refusal;
 use events::bounds::vector_in_bounds;
 use events::event::{Event, in_bounds, is_allowed};
 use page::bytes::byte_at;
-use processor::controls::Record;
+use processor::controls::{Controls, Record};
 use processor::offsets::VTPR;
 use rules::entry::failing_check;
 
@@ -21,6 +24,17 @@ fn test(passes: bool, refusal: Refusal) -> Result<(), Refusal>
     if passes { Ok(()) } else { Err(refusal) }
 }
 
+// The first check of an entry that fails, looked for where it counts: nothing else refuses the entry.
+fn entry_check(page: &[u8], passes: bool, controls: Controls) -> Option<u8>
+    ensures { result ≡ (if passes then numbered (failing_check controls (byte_at page.now vtpr)) else None) }
+{
+    if passes {
+        failing_check(controls, byte_at(page, VTPR))
+    } else {
+        None
+    }
+}
+
 // The first entry check that fails, none where none does or the event is no entry.
 fn check_of(page: &[u8], event: Event) -> Option<u8>
     ensures { result ≡ numbered (event_check page.now event) }
@@ -28,7 +42,7 @@ fn check_of(page: &[u8], event: Event) -> Option<u8>
     let Event::Entry(controls) = event else {
         return None;
     };
-    failing_check(controls, byte_at(page, VTPR))
+    entry_check(page, true, controls)
 }
 
 // A check that fails is the refusal by its number.
@@ -85,6 +99,17 @@ pub fn root_refusal(
         !record.guest,
         check,
     )
+}
+
+// Which refusal an entry gets, with its check, or none.
+#[tactic(auto, using(crate::proofs::Entry::checked_last), unfolding(events::specs::Events::allowed, events::specs::Events::event_in_bounds, events::specs::Events::in_bounds, events::specs::Events::root_only, meaning::specs::Refusals::refusal_of))]
+pub fn entry_refusal(page: &[u8], record: Record, controls: Controls) -> Result<(), Refusal>
+    ensures { result ≡ refusal_of page.now «record» (given (Entry controls)) }
+{
+    let fields = record.controls.flags_in_bounds() & controls.flags_in_bounds();
+    let mode = !record.guest;
+    let check = entry_check(page, page.len() == 4096 && fields && mode, controls);
+    first_refusal(page, true, fields, mode, check)
 }
 
 // Which refusal an event gets on a page and a record, with its check, or none.
