@@ -25,10 +25,17 @@ pub decimal-more : (n : ℕ) → n < 2 ^ 64 → 10 ≤ n → decimal n ≡ decim
 unfolding digits
 decimal-more n h t = rw (le-ltb n 10 t) (ap (λ ds. ds ++ (digit n ∷ [])) (sym (more 18 (n / 10) (omega arith))))
 
--- ---- more than four digits
+-- ---- one to four digits, and more than four
 one-at-least : (k : ℕ) → 1 ≤ 10 ^ k
 one-at-least zero = omega arith
 one-at-least (suc k) = omega (arith, one-at-least k)
+
+pub exactly : (k n : ℕ) → n < 2 ^ 64 → 10 ^ k ≤ n → n < 10 ^ suc k → decimal n ≡ last_digits (suc k) n
+unfolding digits last_digits
+exactly zero n w h l = rw (lt-ltb n 10 l) refl
+exactly (suc k) n w h l =
+    let ten : 10 ≤ n = omega (arith, one-at-least k) in
+    decimal-more n w ten ∙ ap (λ (ds : List ℕ). ds ++ (digit n ∷ [])) (exactly k (n / 10) (omega arith) (omega arith) (omega arith))
 
 -- a number without its last k digits
 abbrev tenths : ℕ → ℕ → ℕ
