@@ -16,6 +16,7 @@ pub fn descriptor_fits(descriptor: &[u8]) -> bool
 }
 
 // The highest posted vector, or none.
+#[tactic(auto, using(crate::proofs::Words::posted_words))]
 pub fn highest_posted(descriptor: &[u8]) -> Option<u8>
     ensures { result ≡ highest_posted descriptor.now }
 {
